@@ -1,0 +1,53 @@
+-- Document 01, "The record" and "When a sheet is turned back": the answer to a sheet, and the lent buffer afterwards.
+use Prim.Native.Nat.{ℕ}
+use mathlib.Core.List.{List, _++_}
+use mathlib.Core.Option.{Option, none, some}
+use lib.ListN.{length, drop}
+use lib.IntN.{ℤ}
+use Rattle.rules.specs.declared.Answer.{Answer}
+use Rattle.rules.specs.Problem.{Problem}
+use Rattle.rules.specs.Sheet.{sheetOf, problem}
+use Rattle.rules.specs.Step.{infeasible, diverged}
+use Rattle.rules.specs.Run.{Plan, stepAt, planAfter}
+use Rattle.rules.specs.Record.{recordOf, recordLength}
+use Rattle.rules.specs.Refusals.{Numbered, numbered, refuse, _otherwise_, firstBelow, refusalBeforeSteps}
+
+-- To the caller, the answer is a plan's two figures or a refusal with number and place.
+pub data Outcome : Type 0 where
+  plan : (low gap : ℤ) → Outcome
+  refused : Numbered → Outcome
+
+-- what each case of the code's answer stands for
+unfoldable pub outcome : Answer → Outcome
+outcome (Answer.Plan low gap) = plan low gap
+outcome (Answer.Refused r) = refused (numbered r)
+
+-- Refusals 9 and 10: the first of k steps that is refused, 9 before 10 within a step. The place is the step's number.
+unfoldable pub stepRefusal : Problem → ℕ → Option Numbered
+stepRefusal P k = firstBelow k (λ t. let q = stepAt P t in refuse 9 t (infeasible P q) otherwise refuse 10 t (diverged P q))
+
+-- the one refusal of a sheet, if any
+unfoldable pub refusal : List ℕ → ℕ → Option Numbered
+refusal s room = refusalBeforeSteps s room otherwise stepRefusal (problem (sheetOf s)) (sheetOf s .steps)
+
+-- the plan of a sheet that is not refused
+unfoldable pub planOf : List ℕ → Plan
+planOf s = planAfter (problem (sheetOf s)) (sheetOf s .steps)
+
+-- a refusal where there is one, else the plan's figures
+unfoldable pub outcomeOf : Plan → Option Numbered → Outcome
+outcomeOf p none = plan (p .low) (p .gap)
+outcomeOf p (some r) = refused r
+
+-- The answer to a sheet's bytes and a record buffer of `room` bytes.
+unfoldable pub answer : List ℕ → ℕ → Outcome
+answer s room = outcomeOf (planOf s) (refusal s room)
+
+-- for a plan the record, then the rest as lent; for a refusal the buffer as lent
+unfoldable pub bufferOf : Plan → List ℕ → Outcome → List ℕ
+bufferOf p lent (plan low gap) = recordOf p ++ drop (recordLength (p .materials) (p .limits)) lent
+bufferOf p lent (refused r) = lent
+
+-- The lent buffer afterwards.
+unfoldable pub bufferAfter : List ℕ → List ℕ → List ℕ
+bufferAfter s lent = bufferOf (planOf s) lent (answer s (length lent))

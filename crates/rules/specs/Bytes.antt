@@ -1,0 +1,26 @@
+-- Document 01, "All figures are little-endian": numbers of w bytes, read and written. Signed ones are in two's complement.
+use Prim.Native.Nat.{ℕ, zero, suc, _+_, _-_, _*_, _/_, _%_, _^_}
+use mathlib.Core.Bool.{cond}
+use mathlib.Core.List.{List, [], _∷_}
+use lib.ListN.{getD}
+use lib.IntN.{ℤ, pos, negsuc, _-ℤ_}
+use lib.Dec.{ltb}
+
+-- the unsigned number in the w bytes of s from place o on
+unfoldable pub unsignedAt : ℕ → List ℕ → ℕ → ℕ
+unsignedAt zero s o = 0
+unsignedAt (suc w) s o = getD s o 0 + 256 * unsignedAt w s (suc o)
+
+-- the signed number in them
+unfoldable pub signedAt : ℕ → List ℕ → ℕ → ℤ
+signedAt w s o = let v = unsignedAt w s o in cond (ltb (2 * v) (256 ^ w)) (pos v) (pos v -ℤ pos (256 ^ w))
+
+-- an unsigned number in w bytes
+unfoldable pub unsignedBytes : ℕ → ℕ → List ℕ
+unsignedBytes zero v = []
+unsignedBytes (suc w) v = v % 256 ∷ unsignedBytes w (v / 256)
+
+-- a signed number in w bytes; `negsuc v` is −(v + 1)
+unfoldable pub signedBytes : ℕ → ℤ → List ℕ
+signedBytes w (pos v) = unsignedBytes w v
+signedBytes w (negsuc v) = unsignedBytes w (256 ^ w - suc v)

@@ -1,0 +1,156 @@
+-- Document 01, the examples of the table of refusals; and sheets that settle what they and C1 to C10 leave open. Tables of the same form, each with its proof.
+use Prim.Native.Nat.{ℕ, _+_, _*_}
+use Prim.Native.String.{String}
+use mathlib.Core.Path.{_≡_, refl}
+use mathlib.Core.List.{List, [], _∷_, _++_}
+use mathlib.Core.Option.{none}
+use lib.ListN.{replicate}
+use lib.IntN.{pos}
+use Rattle.rules.specs.declared.Answer.the-variants.{Plan, Refused}
+use Rattle.rules.specs.declared.Cause.{Cause}
+use Rattle.rules.specs.declared.Cause.the-variants.{Short, Dimensions, Length, Parameters, Key, Value, Bounds, Buffer, Infeasible}
+use Rattle.rules.specs.Sheet.{sheetLength}
+use Rattle.rules.specs.Ranges.{neg}
+use Rattle.rules.specs.Refusals.{layoutRefusal}
+use Rattle.rules.specs.Listing.{text}
+use Rattle.rules.specs.Rows.{_∶_, sizes, written, hex, Row, Holds, All}
+use Rattle.rules.specs.Marked.{C1, C3, C7}
+
+-- a row for a refusal
+abbrev turned : List ℕ → ℕ → Cause → ℕ → String → Row
+turned sheet room cause place listing =
+    record { sheet = sheet; room = room; answer = Refused (record { place = place; cause = cause }); bytes = []; listing = text listing }
+
+-- ---- the examples of the table; those of 7, 9 and 10 are C10, C3 and C5
+abbrev pub examples : List Row
+examples =
+    -- 11 bytes
+    turned (replicate 11 0) 42 Short 0 "refused 1 0\n" ∷
+    -- n = 33
+    turned (written 33 0 1 1 1 []) 42 Dimensions 0 "refused 2 0\n" ∷
+    -- e = 1, 12 bytes
+    turned (sizes (1 ∷ 0 ∷ 1 ∷ 1 ∷ 1 ∷ 1 ∷ [])) 42 Length 0 "refused 3 0\n" ∷
+    -- D = 0
+    turned (written 1 0 1 0 1 []) 42 Parameters 0 "refused 4 0\n" ∷
+    -- keys 1, 1 with n = 2
+    turned (written 2 0 1 1 1 (1 ∶ pos 5 ∷ 1 ∶ pos 5 ∷ [])) 42 Key 1 "refused 5 1\n" ∷
+    -- key 0, value 0
+    turned (written 1 0 1 1 1 (0 ∶ pos 0 ∷ [])) 42 Value 0 "refused 6 0\n" ∷
+    -- C1, 41 bytes
+    turned (C1 .sheet) 41 Buffer 42 "refused 8 42\n" ∷
+    -- a bad value before a bad key: 5, not 6
+    turned (written 1 0 1 1 1 (0 ∶ pos 0 ∷ 1 ∶ pos 1 ∷ [])) 42 Key 1 "refused 5 1\n" ∷
+    []
+
+pub examples-hold : All examples
+unfolding Holds All
+examples-hold = ((refl, refl, refl), ((refl, refl, refl), ((refl, refl, refl), ((refl, refl, refl), ((refl, refl, refl), ((refl, refl, refl), ((refl, refl, refl), ((refl, refl, refl), tt))))))))
+
+-- ---- more on the order of the refusals
+abbrev pub order : List Row
+order =
+    -- e above its bound, though the length fits: 2, not 5
+    turned (written 1 0 1 1 1 (0 ∶ pos 1 ∷ 64 ∶ pos 1 ∷ 128 ∶ pos 1 ∷ 192 ∶ pos 1 ∷ [])) 42 Dimensions 0 "refused 2 0\n" ∷
+    -- a byte too many and k = 0: 3, not 4
+    turned (written 1 0 1 1 0 [] ++ (0 ∷ [])) 42 Length 0 "refused 3 0\n" ∷
+    -- a bad value and a least amount above the most: 6, not 7
+    turned (written 1 0 1 1 1 (64 ∶ pos 4 ∷ 128 ∶ neg 1 ∷ [])) 42 Value 1 "refused 6 1\n" ∷
+    -- a least amount above the most and a short buffer: 7, not 8
+    turned (written 2 0 1 1 1 (65 ∶ pos 1 ∷ [])) 0 Bounds 1 "refused 7 1\n" ∷
+    -- C3 with a short buffer: 8, not 9
+    turned (C3 .sheet) 37 Buffer 38 "refused 8 38\n" ∷
+    -- C6 with k 2: at step 1 the value is 2^50, above 0, and the multiplier would be 2^31: 9, not 10
+    turned (written 1 1 1024 1 2 (193 ∶ neg 1048576 ∷ [])) 38 Infeasible 1 "refused 9 1\n" ∷
+    []
+
+pub order-holds : All order
+unfolding Holds All
+order-holds = ((refl, refl, refl), ((refl, refl, refl), ((refl, refl, refl), ((refl, refl, refl), ((refl, refl, refl), ((refl, refl, refl), tt))))))
+
+-- ---- the ends of the ranges
+abbrev pub ends : List Row
+ends =
+    turned [] 42 Short 0 "refused 1 0\n" ∷
+    turned (replicate 12 255) 42 Dimensions 0 "refused 2 0\n" ∷
+    turned (written 0 0 1 1 1 []) 42 Dimensions 0 "refused 2 0\n" ∷
+    turned (written 1 17 1 1 1 []) 42 Dimensions 0 "refused 2 0\n" ∷
+    turned (C7 .sheet ++ (0 ∷ [])) 42 Length 0 "refused 3 0\n" ∷
+    turned (written 1 0 0 1 1 []) 42 Parameters 0 "refused 4 0\n" ∷
+    turned (written 1 0 1025 1 1 []) 42 Parameters 0 "refused 4 0\n" ∷
+    turned (written 1 0 1 1025 1 []) 42 Parameters 0 "refused 4 0\n" ∷
+    turned (written 1 0 1 1 4097 []) 42 Parameters 0 "refused 4 0\n" ∷
+    -- row m+3; column n+1 in a limit's row; column n in row 2; the largest key
+    turned (written 1 0 1 1 1 (192 ∶ pos 1 ∷ [])) 42 Key 0 "refused 5 0\n" ∷
+    turned (written 1 1 1 1 1 (194 ∶ pos 1 ∷ [])) 42 Key 0 "refused 5 0\n" ∷
+    turned (written 1 0 1 1 1 (129 ∶ pos 1 ∷ [])) 42 Key 0 "refused 5 0\n" ∷
+    turned (written 1 0 1 1 1 (65535 ∶ pos 1 ∷ [])) 42 Key 0 "refused 5 0\n" ∷
+    turned (written 1 1 1 1 1 (0 ∶ pos 10001 ∷ [])) 42 Value 0 "refused 6 0\n" ∷
+    turned (written 1 1 1 1 1 (0 ∶ neg 10001 ∷ [])) 42 Value 0 "refused 6 0\n" ∷
+    turned (written 1 1 1 1 1 (64 ∶ neg 1 ∷ [])) 42 Value 0 "refused 6 0\n" ∷
+    turned (written 1 1 1 1 1 (128 ∶ pos 1001 ∷ [])) 42 Value 0 "refused 6 0\n" ∷
+    turned (written 1 1 1 1 1 (192 ∶ neg 1001 ∷ [])) 42 Value 0 "refused 6 0\n" ∷
+    turned (written 1 1 1 1 1 (192 ∶ pos 1 ∷ 193 ∶ pos 32000001 ∷ [])) 42 Value 1 "refused 6 1\n" ∷
+    -- every figure at an end of its range: cost −10,000, least 1, most 1,000, a 1,000, b −32,000,000
+    record {
+      sheet = written 1 1 1 1 1 (0 ∶ neg 10000 ∷ 64 ∶ pos 1 ∷ 128 ∶ pos 1000 ∷ 192 ∶ pos 1000 ∷ 193 ∶ neg 32000000 ∷ []);
+      room = 38;
+      answer = Plan (neg 10000000) (pos 0);
+      bytes = hex "0100 0100 0100 806967ffffffffff 0000000000000000 e8030000 408af701 408af70100000000";
+      listing = text "steps 1\nmat 0 1000\nlim 0 33000000 33000000\nlow -10000000\ngap 0\n";
+    } ∷
+    -- and at the other: cost 10,000, least 1,000, a −1,000, b 32,000,000; p and D 1,024
+    record {
+      sheet = written 1 1 1024 1024 1 (0 ∶ pos 10000 ∷ 64 ∶ pos 1000 ∷ 128 ∶ pos 1000 ∷ 192 ∶ neg 1000 ∷ 193 ∶ pos 32000000 ∷ []);
+      room = 38;
+      answer = Plan (pos 10240000000) (pos 0);
+      bytes = hex "0100 0100 0100 00005a6202000000 0000000000000000 e8030000 00000000 c07508feffffffff";
+      listing = text "steps 1\nmat 0 1000\nlim 0 0 -33000000\nlow 10240000000\ngap 0\n";
+    } ∷
+    []
+
+pub ends-hold : All ends
+unfolding Holds All
+ends-hold = ((refl, refl, refl), ((refl, refl, refl), ((refl, refl, refl), ((refl, refl, refl), ((refl, refl, refl), ((refl, refl, refl), ((refl, refl, refl), ((refl, refl, refl), ((refl, refl, refl), ((refl, refl, refl), ((refl, refl, refl), ((refl, refl, refl), ((refl, refl, refl), ((refl, refl, refl), ((refl, refl, refl), ((refl, refl, refl), ((refl, refl, refl), ((refl, refl, refl), ((refl, refl, refl), ((refl, refl, refl), ((refl, refl, refl), tt)))))))))))))))))))))
+
+-- the largest sizes are read
+pub largest-sizes : layoutRefusal (written 32 16 1024 1024 4096 []) ≡ none
+unfolding Holds
+largest-sizes = refl
+
+-- the longest sheet has 3,756 bytes
+pub longest : sheetLength (32 * (16 + 3) + 16) ≡ 3756
+longest = refl
+
+-- ---- the steps
+abbrev pub steps : List Row
+steps =
+    -- Two materials and two limits, p = 2, D = 3, k = 3: costs 1 and 2, most amounts 4 and 5, −x₀ ≤ −3 and x₀ − x₁ ≤ −1. By hand:
+    -- step 0: M = 0, 0; weights 3, 6; amounts 0, 0; misses 3, 1; value 0.
+    -- step 1: M = 6, 2; weights 3−6+2 = −1, 6−2 = 4; amounts 4, 0; misses −1, 5; value 3·4 + 6·(−1) + 2·5 = 16.
+    -- step 2: M = 4, 12; weights 3−4+12 = 11, 6−12 = −6; amounts 0, 5; misses 3, −4; value 3·10 + 4·3 + 12·(−4) = −6.
+    -- Closing M = 10, 4; sums 4, 5; overshoots 5, 2; low 16; gap 3·(4+10) − 3·16 = −6.
+    -- Were limit 1 updated with limit 0 already at 6, material 0 would weigh −3 in step 0, its amount would be 4, the miss of limit 1 would be 5
+    -- and its multiplier 10, not 2.
+    record {
+      sheet =
+          written 2 2 2 3 3
+          (0 ∶ pos 1 ∷ 1 ∶ pos 2 ∷ 128 ∶ pos 4 ∷ 129 ∶ pos 5 ∷ 192 ∶ neg 1 ∷ 194 ∶ neg 3 ∷ 256 ∶ pos 1 ∷ 257 ∶ neg 1 ∷ 258 ∶ neg 1 ∷ []);
+      room = 54;
+      answer = Plan (pos 16) (neg 6);
+      bytes = hex "0200 0200 0300 1000000000000000 faffffffffffffff 04000000 05000000 0a000000 04000000 0500000000000000 0200000000000000";
+      listing = text "steps 3\nmat 0 4\nmat 1 5\nlim 0 10 5\nlim 1 4 2\nlow 16\ngap -6\n";
+    } ∷
+    -- A negative cost: the greatest cost is −2·1, with the least amount, and not −2·3. Cost −2, from 1 to 3, x ≤ 2, k = 2. By hand:
+    -- step 0: M = 0; weight −2; amount 3; miss 1; value −6. Step 1: M = 1; weight −1; amount 3; miss 1; value −6 + 1 = −5, which −2 allows.
+    record {
+      sheet = written 1 1 1 1 2 (0 ∶ neg 2 ∷ 64 ∶ pos 1 ∷ 128 ∶ pos 3 ∷ 192 ∶ pos 1 ∷ 193 ∶ pos 2 ∷ []);
+      room = 38;
+      answer = Plan (neg 5) (neg 2);
+      bytes = hex "0100 0100 0200 fbffffffffffffff feffffffffffffff 06000000 02000000 0200000000000000";
+      listing = text "steps 2\nmat 0 6\nlim 0 2 2\nlow -5\ngap -2\n";
+    } ∷
+    []
+
+pub steps-hold : All steps
+unfolding Holds All
+steps-hold = ((refl, refl, refl), ((refl, refl, refl), tt))

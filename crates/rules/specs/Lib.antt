@@ -1,0 +1,34 @@
+-- Document 01 as definitions that compute. This is what a reader must believe; read it beside the paper, in this order:
+--   Problem    materials, costs, bounds and limits
+--   Bytes      little-endian numbers of a width
+--   Sheet      the layout of a batch sheet, and the figure at a row and a column
+--   Ranges     the table of ranges, and the ranges of the sizes
+--   Step       one step of the method
+--   Run        k steps, and the plan that they give
+--   Record     the bytes of a plan
+--   Refusals   the numbers of the refusals, and refusals 1 to 8
+--   Answers    the answer to a sheet, and the lent buffer afterwards
+--   Listing    the text of an answer
+--   Margins    feasible points, and the statement of demand 3
+-- The rest holds these definitions against worked sheets:
+--   Rows       how a table of sheets is written
+--   Marked     C1 to C10
+--   Examples   the examples of the refusals, their order, the ends of the ranges, and steps worked by hand
+-- Signs: `pos n` and `negsuc n` are the integers n and −(n + 1). `ltb leb eqb` test naturals for < ≤ =, and `ltZ leZ` integers for < ≤.
+-- `cond b x y` is x where the test b holds, else y. `getD s i d` is element i of the list s, or d past its end.
+-- Of the crate `integer`: `sumTo n f` is f 0 + .. + f (n − 1), `maxℤ` the larger of two, `tabulate n f` the list of f 0 to f (n − 1), and `at s i`
+-- is `getD s i 0` for integers.
+pub mod Problem
+pub mod Bytes
+pub mod Sheet
+pub mod Ranges
+pub mod Step
+pub mod Run
+pub mod Record
+pub mod Refusals
+pub mod Answers
+pub mod Listing
+pub mod Margins
+pub mod Rows
+pub mod Marked
+pub mod Examples

@@ -1,0 +1,58 @@
+-- Document 01, "Marked sheets": the listing, as batchplan prints it.
+use Prim.Native.Nat.{ℕ, zero, suc, _+_, _/_, _%_}
+use Prim.Native.Char.{code}
+use Prim.Native.String as String
+use mathlib.Core.List.{List, [], _∷_, _++_}
+use lib.IntN.{ℤ, pos, negsuc}
+use Rattle.integer.specs.Vector.{at}
+use Rattle.rules.specs.Run.{Plan}
+use Rattle.rules.specs.Answers.{Outcome, plan, refused, planOf, answer}
+
+-- the bytes of a text of ASCII characters
+unfoldable pub text : String.String → List ℕ
+text String.[] = []
+text (String._∷_ c s) = code c ∷ text s
+
+-- the digits of v in decimal, at most d of them; none for 0
+unfoldable pub digits : ℕ → ℕ → List ℕ
+digits zero v = []
+digits (suc d) zero = []
+digits (suc d) (suc v) = digits d (suc v / 10) ++ ((48 + suc v % 10) ∷ [])
+
+-- a number in decimal: v has at most v digits; `negsuc v` is −(v + 1)
+unfoldable pub decimal : ℤ → List ℕ
+decimal (pos zero) = text "0"
+decimal (pos (suc v)) = digits (suc v) (suc v)
+decimal (negsuc v) = text "-" ++ digits (suc v) (suc v)
+
+-- numbers, each after one space
+unfoldable pub spaced : List ℤ → List ℕ
+spaced [] = []
+spaced (z ∷ zs) = text " " ++ decimal z ++ spaced zs
+
+-- a line: a word, its numbers, and a newline
+unfoldable pub line : String.String → List ℤ → List ℕ
+line word zs = text word ++ spaced zs ++ text "\n"
+
+-- a line for each place below n
+unfoldable pub lines : ℕ → (ℕ → List ℕ) → List ℕ
+lines zero f = []
+lines (suc n) f = lines n f ++ f n
+
+-- `mat` has the material and its sum; `lim` has the limit, closing multiplier and residual total
+unfoldable pub planText : Plan → List ℕ
+planText p =
+    line "steps" (pos (p .steps) ∷ [])
+    ++ lines (p .materials) (λ j. line "mat" (pos j ∷ at (p .sums) j ∷ []))
+    ++ lines (p .limits) (λ i. line "lim" (pos i ∷ at (p .multipliers) i ∷ at (p .residualTotals) i ∷ []))
+    ++ line "low" (p .low ∷ [])
+    ++ line "gap" (p .gap ∷ [])
+
+-- the text of an answer: a plan's lines, or the refusal's line with number and place
+unfoldable pub textOf : Plan → Outcome → List ℕ
+textOf p (plan low gap) = planText p
+textOf p (refused r) = line "refused" (pos (r .number) ∷ pos (r .place) ∷ [])
+
+-- The listing of the answer to a sheet's bytes and a record buffer of `room` bytes.
+unfoldable pub listing : List ℕ → ℕ → List ℕ
+listing s room = textOf (planOf s) (answer s room)

@@ -1,0 +1,40 @@
+-- Document 01, "What demand 3 speaks of": one claim about the answer to a sheet's bytes. Its proof is the crate `margins`.
+use mathlib.Core.Path.{_≡_}
+use mathlib.Core.List.{List}
+use Prim.Native.Nat.{ℕ, _<_}
+use lib.IntN.{ℤ, pos, _+ℤ_, _-ℤ_, _*ℤ_}
+use lib.Signed.{_≤ℤ_, _<ℤ_}
+use Rattle.integer.specs.Sum.{sumTo}
+use Rattle.integer.specs.Vector.{at}
+use Rattle.rules.specs.Problem.{Problem, costOf, loadOf}
+use Rattle.rules.specs.Sheet.{sheetOf, problem}
+use Rattle.rules.specs.Run.{stepAt, planAfter}
+use Rattle.rules.specs.Answers.{Outcome, plan, refused}
+
+abbrev pub square : ℤ → ℤ
+square z = z *ℤ z
+
+-- A feasible point ("lawful recipe"): whole amounts y over the positive divisor d, with l_j ≤ y_j/d ≤ u_j and Σ_j a_ij·y_j/d ≤ b_i, multiplied out.
+pub record Feasible (P : Problem) (d : ℤ) (y : ℕ → ℤ) : Type 0 where
+  pub divisor : pos 0 <ℤ d
+  pub above : (j : ℕ) → j < P .materials → (d *ℤ P .least j) ≤ℤ y j
+  pub below : (j : ℕ) → j < P .materials → y j ≤ℤ (d *ℤ P .most j)
+  pub within : (i : ℕ) → i < P .limits → loadOf P y i ≤ℤ (d *ℤ P .bound i)
+
+-- The margins of the plan after k steps, with the printed gap.
+pub record PlanMargins (P : Problem) (k : ℕ) (gap : ℤ) : Type 0 where
+  -- over every feasible point y/d: d·D·cost of the sums − k·D·cost of y ≤ d·gap
+  pub excess : (d : ℤ) (y : ℕ → ℤ) → Feasible P d y →
+      (d *ℤ (pos (P .scale) *ℤ costOf P (at (planAfter P k .sums))) -ℤ pos k *ℤ (pos (P .scale) *ℤ costOf P y)) ≤ℤ (d *ℤ gap)
+  -- for each limit i: p·residual total ≤ closing multiplier
+  pub residuals : (i : ℕ) → i < P .limits →
+      (pos (P .numerator) *ℤ at (planAfter P k .residualTotals) i) ≤ℤ at (planAfter P k .multipliers) i
+  -- 2·p·gap + Σ_i (closing multiplier)² ≤ p²·Σ_t Σ_i residual², over steps 0 to k−1
+  pub squares :
+      (pos 2 *ℤ pos (P .numerator) *ℤ gap +ℤ sumTo (P .limits) (λ i. square (at (planAfter P k .multipliers) i)))
+      ≤ℤ (square (pos (P .numerator)) *ℤ sumTo k (λ t. sumTo (P .limits) (λ i. square (at (stepAt P t .residuals) i))))
+
+-- Demand 3: a plan has its margins; and where the answer is refusal 9 ("no blend"), whatever its place, there is no feasible point.
+unfoldable pub Margins : List ℕ → Outcome → Type 0
+Margins s (plan low gap) = PlanMargins (problem (sheetOf s)) (sheetOf s .steps) gap
+Margins s (refused r) = r .number ≡ 9 → (d : ℤ) (y : ℕ → ℤ) → Feasible (problem (sheetOf s)) d y → ⊥

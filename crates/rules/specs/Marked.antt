@@ -1,0 +1,152 @@
+-- Document 01, "Marked sheets": C1 to C10, one table, and one proof that it follows from the definitions.
+use mathlib.Core.Path.{_≡_, refl}
+use mathlib.Core.List.{List, [], _∷_, map}
+use lib.IntN.{pos}
+use Rattle.integer.specs.Vector.{at}
+use Rattle.rules.specs.declared.Answer.the-variants.{Plan, Refused}
+use Rattle.rules.specs.declared.Cause.the-variants.{Bounds, Infeasible, Diverged}
+use Rattle.rules.specs.Problem.{Problem}
+use Rattle.rules.specs.Sheet.{sheetOf, problem}
+use Rattle.rules.specs.Ranges.{neg}
+use Rattle.rules.specs.Step.{reducedCost, greatestCost}
+use Rattle.rules.specs.Run.{stateAfter, stepAt}
+use Rattle.rules.specs.Listing.{text}
+use Rattle.rules.specs.Rows.{_∶_, written, hex, Row, Holds, All}
+
+-- Multipliers go 0, 12, 14, 0, 12; step values are 0, 104, 68, 0. Step 1 has a tie at material 0.
+abbrev pub C1 : Row
+C1 = record {
+  sheet = written 2 1 1 8 4 (0 ∶ pos 3 ∷ 1 ∶ pos 1 ∷ 128 ∶ pos 10 ∷ 129 ∶ pos 10 ∷ 192 ∶ neg 2 ∷ 193 ∶ neg 1 ∷ 194 ∶ neg 12 ∷ []);
+  room = 44;
+  answer = Plan (pos 104) (neg 16);
+  bytes = hex "0200 0100 0400 6800000000000000 f0ffffffffffffff 0a000000 14000000 0c000000 0800000000000000";
+  listing = text "steps 4\nmat 0 10\nmat 1 20\nlim 0 12 8\nlow 104\ngap -16\n";
+}
+
+-- C1 with k 1
+abbrev pub C2 : Row
+C2 = record {
+  sheet = written 2 1 1 8 1 (0 ∶ pos 3 ∷ 1 ∶ pos 1 ∷ 128 ∶ pos 10 ∷ 129 ∶ pos 10 ∷ 192 ∶ neg 2 ∷ 193 ∶ neg 1 ∷ 194 ∶ neg 12 ∷ []);
+  room = 42;
+  answer = Plan (pos 0) (pos 0);
+  bytes = hex "0200 0100 0100 0000000000000000 0000000000000000 00000000 00000000 0c000000 0c00000000000000";
+  listing = text "steps 1\nmat 0 0\nmat 1 0\nlim 0 12 12\nlow 0\ngap 0\n";
+}
+
+-- refused 9 at 1: step value 21, greatest cost 1
+abbrev pub C3 : Row
+C3 = record {
+  sheet = written 1 1 1 1 2 (0 ∶ pos 1 ∷ 128 ∶ pos 1 ∷ 192 ∶ neg 1 ∷ 193 ∶ neg 5 ∷ []);
+  room = 38;
+  answer = Refused (record { place = 1; cause = Infeasible });
+  bytes = [];
+  listing = text "refused 9 1\n";
+}
+
+-- C3 with k 1
+abbrev pub C4 : Row
+C4 = record {
+  sheet = written 1 1 1 1 1 (0 ∶ pos 1 ∷ 128 ∶ pos 1 ∷ 192 ∶ neg 1 ∷ 193 ∶ neg 5 ∷ []);
+  room = 40;
+  answer = Plan (pos 0) (pos 0);
+  bytes = hex "0100 0100 0100 0000000000000000 0000000000000000 00000000 05000000 0500000000000000";
+  listing = text "steps 1\nmat 0 0\nlim 0 5 5\nlow 0\ngap 0\n";
+}
+
+-- refused 10 at 0: the multiplier would be 1,073,742,848
+abbrev pub C5 : Row
+C5 = record {
+  sheet = written 1 1 1024 1 1 (193 ∶ neg 1048577 ∷ []);
+  room = 38;
+  answer = Refused (record { place = 0; cause = Diverged });
+  bytes = [];
+  listing = text "refused 10 0\n";
+}
+
+-- C5 with −1,048,576: the multiplier is 1,073,741,824
+abbrev pub C6 : Row
+C6 = record {
+  sheet = written 1 1 1024 1 1 (193 ∶ neg 1048576 ∷ []);
+  room = 38;
+  answer = Plan (pos 0) (pos 0);
+  bytes = hex "0100 0100 0100 0000000000000000 0000000000000000 00000000 00000040 0000100000000000";
+  listing = text "steps 1\nmat 0 0\nlim 0 1073741824 1048576\nlow 0\ngap 0\n";
+}
+
+-- no entries
+abbrev pub C7 : Row
+C7 = record {
+  sheet = written 1 0 1 1 1 [];
+  room = 26;
+  answer = Plan (pos 0) (pos 0);
+  bytes = hex "0100 0000 0100 0000000000000000 0000000000000000 00000000";
+  listing = text "steps 1\nmat 0 0\nlow 0\ngap 0\n";
+}
+
+-- a negative low
+abbrev pub C8 : Row
+C8 = record {
+  sheet = written 1 0 1 1 2 (0 ∶ neg 2 ∷ 128 ∶ pos 3 ∷ []);
+  room = 27;
+  answer = Plan (neg 6) (pos 0);
+  bytes = hex "0100 0000 0200 faffffffffffffff 0000000000000000 06000000";
+  listing = text "steps 2\nmat 0 6\nlow -6\ngap 0\n";
+}
+
+-- a least amount
+abbrev pub C9 : Row
+C9 = record {
+  sheet = written 1 0 1 1 1 (0 ∶ pos 5 ∷ 64 ∶ pos 4 ∷ 128 ∶ pos 4 ∷ []);
+  room = 26;
+  answer = Plan (pos 20) (pos 0);
+  bytes = hex "0100 0000 0100 1400000000000000 0000000000000000 04000000";
+  listing = text "steps 1\nmat 0 4\nlow 20\ngap 0\n";
+}
+
+-- least above most
+abbrev pub C10 : Row
+C10 = record {
+  sheet = written 1 0 1 1 1 (64 ∶ pos 4 ∷ 128 ∶ pos 3 ∷ []);
+  room = 26;
+  answer = Refused (record { place = 0; cause = Bounds });
+  bytes = [];
+  listing = text "refused 7 0\n";
+}
+
+-- C1 to C10
+abbrev pub table : List Row
+table = C1 ∷ C2 ∷ C3 ∷ C4 ∷ C5 ∷ C6 ∷ C7 ∷ C8 ∷ C9 ∷ C10 ∷ []
+
+-- They follow from the definitions.
+pub marked : All table
+unfolding Holds All
+marked = ((refl, refl, refl), ((refl, refl, refl), ((refl, refl, refl), ((refl, refl, refl), ((refl, refl, refl), ((refl, refl, refl), ((refl, refl, refl), ((refl, refl, refl), ((refl, refl, refl), ((refl, refl, refl), tt))))))))))
+
+-- ---- what document 01 says of the steps of C1 and C3
+
+abbrev problem-C1 : Problem
+problem-C1 = problem (sheetOf (C1 .sheet))
+
+pub multipliers-C1 : map (λ t. at (stateAfter problem-C1 t .multipliers) 0) (0 ∷ 1 ∷ 2 ∷ 3 ∷ 4 ∷ []) ≡ pos 0 ∷ pos 12 ∷ pos 14 ∷ pos 0 ∷ pos 12 ∷ []
+unfolding Holds
+multipliers-C1 = refl
+
+pub values-C1 : map (λ t. stepAt problem-C1 t .dualValue) (0 ∷ 1 ∷ 2 ∷ 3 ∷ []) ≡ pos 0 ∷ pos 104 ∷ pos 68 ∷ pos 0 ∷ []
+unfolding Holds
+values-C1 = refl
+
+-- the tie: at step 1 the reduced cost of material 0 is 0
+pub tie-C1 : reducedCost problem-C1 (at (stateAfter problem-C1 1 .multipliers)) 0 ≡ pos 0
+unfolding Holds
+tie-C1 = refl
+
+abbrev problem-C3 : Problem
+problem-C3 = problem (sheetOf (C3 .sheet))
+
+pub value-C3 : stepAt problem-C3 1 .dualValue ≡ pos 21
+unfolding Holds
+value-C3 = refl
+
+pub greatest-C3 : greatestCost problem-C3 ≡ pos 1
+unfolding Holds
+greatest-C3 = refl

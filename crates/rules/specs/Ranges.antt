@@ -1,0 +1,75 @@
+-- Document 01, "The batch sheet": the table of ranges, and the ranges of the sizes.
+use Prim.Native.Nat.{ℕ, zero, suc, _+_, _*_}
+use mathlib.Core.Bool.{Bool, cond, _&&_}
+use mathlib.Core.List.{List, [], _∷_}
+use lib.ListN.{getD}
+use lib.IntN.{ℤ, pos, negℤ}
+use lib.Signed.{leZ}
+use lib.Dec.{leb, eqb}
+use Rattle.rules.specs.declared.Kind.{Kind}
+use Rattle.rules.specs.declared.Kind.the-variants.{Cost, Least, Most, Coefficient, Bound}
+use Rattle.rules.specs.declared.Range.{Range}
+use Rattle.rules.specs.Sheet.{Sheet}
+
+-- −n
+abbrev pub neg : ℕ → ℤ
+neg n = negℤ (pos n)
+
+infix 70 _to_
+abbrev pub _to_ : ℤ → ℤ → Range
+least to greatest = record { least = least; greatest = greatest }
+
+-- The table of ranges.
+unfoldable pub ranges : List Range
+ranges =
+    -- row 0: cost
+    neg 10000 to pos 10000 ∷
+    -- row 1: least amount
+    pos 1 to pos 1000 ∷
+    -- row 2: most amount
+    pos 1 to pos 1000 ∷
+    -- rows 3 to m+2, columns 0 to n−1: a of limit row−3
+    neg 1000 to pos 1000 ∷
+    -- rows 3 to m+2, column n: b of limit row−3
+    neg 32000000 to pos 32000000 ∷
+    []
+
+-- where a kind of figure stands in the table
+unfoldable pub indexOf : Kind → ℕ
+indexOf Cost = 0
+indexOf Least = 1
+indexOf Most = 2
+indexOf Coefficient = 3
+indexOf Bound = 4
+
+-- the range of a kind of figure
+unfoldable pub rangeOf : Kind → Range
+rangeOf kind = getD ranges (indexOf kind) (pos 0 to pos 0)
+
+-- the row decides what a figure is: the kind at a row and a column, with n materials
+unfoldable pub kindAt : ℕ → ℕ → ℕ → Kind
+kindAt n zero column = Cost
+kindAt n (suc zero) column = Least
+kindAt n (suc (suc zero)) column = Most
+kindAt n (suc (suc (suc i))) column = cond (eqb column n) Bound Coefficient
+
+-- does a value lie in a range?
+unfoldable pub inRange : Range → ℤ → Bool
+inRange r v = leZ (r .least) v && leZ v (r .greatest)
+
+-- does a size lie from its least to its greatest?
+unfoldable pub between : ℕ → ℕ → ℕ → Bool
+between least greatest x = leb least x && leb x greatest
+
+module _ (S : Sheet) where
+  -- the most entries that n and m allow
+  abbrev pub mostEntries : ℕ
+  mostEntries = S .materials * (S .limits + 3) + S .limits
+
+  -- n is 1 to 32, m is 0 to 16, e is at most n(m+3)+m
+  unfoldable pub dimensionsInRange : Bool
+  dimensionsInRange = between 1 32 (S .materials) && between 0 16 (S .limits) && between 0 mostEntries (S .entries)
+
+  -- p and D are 1 to 1,024; k is 1 to 4,096
+  unfoldable pub parametersInRange : Bool
+  parametersInRange = between 1 1024 (S .numerator) && between 1 1024 (S .scale) && between 1 4096 (S .steps)

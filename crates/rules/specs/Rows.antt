@@ -1,0 +1,87 @@
+-- How a table of sheets is written down and held against the definitions. Nothing else uses what is here.
+use Prim.Native.Nat.{ℕ, _+_, _-_, _*_}
+use Prim.Native.String.{String}
+use mathlib.Core.Path.{_≡_}
+use mathlib.Core.Bool.{cond}
+use mathlib.Core.List.{List, [], _∷_, _++_, map}
+use lib.ListN.{length, replicate, drop}
+use lib.IntN.{ℤ}
+use lib.Dec.{ltb, eqb}
+use Rattle.integer.specs.Order.{maxℤ}
+use Rattle.integer.specs.Sum.{sumTo}
+use Rattle.integer.specs.Vector.{tabulate}
+use Rattle.rules.specs.declared.Answer.{Answer}
+use Rattle.rules.specs.Problem.{costOf, loadOf}
+use Rattle.rules.specs.Bytes.{unsignedAt, signedAt, unsignedBytes, signedBytes}
+use Rattle.rules.specs.Sheet.{valueUnder, figure, problem}
+use Rattle.rules.specs.Ranges.{ranges, indexOf, rangeOf, kindAt, inRange, between, dimensionsInRange, parametersInRange}
+use Rattle.rules.specs.Step.{anyBelow, reducedCost, amount, residual, dualValue, greatestCost, moved, stepFrom, infeasible, diverged, next}
+use Rattle.rules.specs.Run.{startingMultiplier, start, stateAfter, stepAt, gapAfter, planAfter}
+use Rattle.rules.specs.Record.{fields, recordOf, recordLength}
+use Rattle.rules.specs.Refusals.{numberOf, numbered, refuse, _otherwise_, firstBelow, notAbove, badKey, badValue, crossed, layoutRefusal, refusalBeforeSteps}
+use Rattle.rules.specs.Answers.{Outcome, outcome, stepRefusal, refusal, planOf, outcomeOf, answer, bufferOf, bufferAfter}
+use Rattle.rules.specs.Listing.{text, digits, decimal, spaced, line, lines, planText, textOf, listing}
+
+-- ---- how a row is written
+
+-- key : value
+infix 70 _∶_
+pub record Entry : Type 0 where
+  pub key : ℕ
+  pub value : ℤ
+
+abbrev pub _∶_ : ℕ → ℤ → Entry
+key ∶ value = record { key = key; value = value }
+
+-- numbers of 2 bytes
+unfoldable pub sizes : List ℕ → List ℕ
+sizes [] = []
+sizes (v ∷ vs) = unsignedBytes 2 v ++ sizes vs
+
+-- a sheet: the sizes n, m, e, p, D and k; the keys; the values
+unfoldable pub written : (n m p D k : ℕ) → List Entry → List ℕ
+written n m p D k entries =
+    sizes (n ∷ m ∷ length entries ∷ p ∷ D ∷ k ∷ []) ++ sizes (map (λ x. x .key) entries) ++ fields 4 (map (λ x. x .value) entries)
+
+-- bytes in hexadecimal, with spaces between the fields
+unfoldable pub nibble : ℕ → ℕ
+nibble c = cond (ltb c 58) (c - 48) (c - 87)
+
+unfoldable pub unspaced : List ℕ → List ℕ
+unspaced [] = []
+unspaced (c ∷ cs) = cond (eqb c 32) (unspaced cs) (c ∷ unspaced cs)
+
+unfoldable pub pairs : List ℕ → List ℕ
+pairs [] = []
+pairs (c ∷ []) = []
+pairs (c ∷ d ∷ cs) = (16 * nibble c + nibble d) ∷ pairs cs
+
+abbrev pub hex : String → List ℕ
+hex s = pairs (unspaced (text s))
+
+-- A sheet and the length of the lent buffer; and what must come out: the answer, the record's bytes (none for a refusal) and the listing.
+pub record Row : Type 0 where
+  pub sheet : List ℕ
+  pub room : ℕ
+  pub answer : Answer
+  pub bytes : List ℕ
+  pub listing : List ℕ
+
+-- ---- how a row is held against the definitions
+
+-- the lent buffer
+abbrev pub lent : ℕ → List ℕ
+lent room = replicate room 170
+
+-- What the definitions give is what the row says: the answer, the buffer afterwards and the listing. Whoever unfolds it computes with them all.
+unfoldable pub Holds : Row → Type 0
+unfolding sizes written nibble unspaced pairs outcome numbered numberOf maxℤ sumTo tabulate costOf loadOf unsignedAt signedAt unsignedBytes signedBytes valueUnder figure problem ranges indexOf rangeOf kindAt inRange between dimensionsInRange parametersInRange anyBelow reducedCost amount residual dualValue greatestCost moved stepFrom infeasible diverged next startingMultiplier start stateAfter stepAt gapAfter planAfter fields recordOf recordLength refuse _otherwise_ firstBelow notAbove badKey badValue crossed layoutRefusal refusalBeforeSteps stepRefusal refusal planOf outcomeOf answer bufferOf bufferAfter text digits decimal spaced line lines planText textOf listing
+Holds r =
+    (answer (r .sheet) (r .room) ≡ outcome (r .answer)) ×
+    (bufferAfter (r .sheet) (lent (r .room)) ≡ r .bytes ++ drop (length (r .bytes)) (lent (r .room))) ×
+    (listing (r .sheet) (r .room) ≡ r .listing)
+
+-- every row of a table holds
+unfoldable pub All : List Row → Type 0
+All [] = Unit {0}
+All (r ∷ rs) = Holds r × All rs
