@@ -1,5 +1,5 @@
 -- Document 01 as definitions that compute. This is what a reader must believe; read it beside the paper, in this order:
---   Problem    materials, costs, bounds and limits
+--   Problem    materials, costs, bounds and limits; feasible points
 --   Bytes      little-endian numbers of a width
 --   Sheet      the layout of a batch sheet, and the figure at a row and a column
 --   Ranges     the table of ranges, and the ranges of the sizes
@@ -9,7 +9,7 @@
 --   Refusals   the numbers of the refusals, and refusals 1 to 8
 --   Answers    the answer to a sheet, and the lent buffer afterwards
 --   Listing    the text of an answer
---   Margins    feasible points, and the statement of demand 3
+--   Margins    the statement of demand 3
 -- The rest holds these definitions against worked sheets:
 --   Rows       how a table of sheets is written
 --   Marked     C1 to C10

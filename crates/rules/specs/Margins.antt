@@ -3,23 +3,16 @@ use mathlib.Core.Path.{_≡_}
 use mathlib.Core.List.{List}
 use Prim.Native.Nat.{ℕ, _<_}
 use lib.IntN.{ℤ, pos, _+ℤ_, _-ℤ_, _*ℤ_}
-use lib.Signed.{_≤ℤ_, _<ℤ_}
+use lib.Signed.{_≤ℤ_}
 use Rattle.integer.specs.Sum.{sumTo}
 use Rattle.integer.specs.Vector.{at}
-use Rattle.rules.specs.Problem.{Problem, costOf, loadOf}
+use Rattle.rules.specs.Problem.{Problem, costOf, Feasible, NoneFeasible}
 use Rattle.rules.specs.Sheet.{sheetOf, problem}
 use Rattle.rules.specs.Run.{stepAt, planAfter}
 use Rattle.rules.specs.Answers.{Outcome, plan, refused}
 
 abbrev pub square : ℤ → ℤ
 square z = z *ℤ z
-
--- A feasible point ("lawful recipe"): whole amounts y over the positive divisor d, with l_j ≤ y_j/d ≤ u_j and Σ_j a_ij·y_j/d ≤ b_i, multiplied out.
-pub record Feasible (P : Problem) (d : ℤ) (y : ℕ → ℤ) : Type 0 where
-  pub divisor : pos 0 <ℤ d
-  pub above : (j : ℕ) → j < P .materials → (d *ℤ P .least j) ≤ℤ y j
-  pub below : (j : ℕ) → j < P .materials → y j ≤ℤ (d *ℤ P .most j)
-  pub within : (i : ℕ) → i < P .limits → loadOf P y i ≤ℤ (d *ℤ P .bound i)
 
 -- The margins of the plan after k steps, with the printed gap.
 pub record PlanMargins (P : Problem) (k : ℕ) (gap : ℤ) : Type 0 where
@@ -37,4 +30,4 @@ pub record PlanMargins (P : Problem) (k : ℕ) (gap : ℤ) : Type 0 where
 -- Demand 3: a plan has its margins; and where the answer is refusal 9 ("no blend"), whatever its place, there is no feasible point.
 unfoldable pub Margins : List ℕ → Outcome → Type 0
 Margins s (plan low gap) = PlanMargins (problem (sheetOf s)) (sheetOf s .steps) gap
-Margins s (refused r) = r .number ≡ 9 → (d : ℤ) (y : ℕ → ℤ) → Feasible (problem (sheetOf s)) d y → ⊥
+Margins s (refused r) = r .number ≡ 9 → NoneFeasible (problem (sheetOf s))

@@ -1,6 +1,7 @@
--- Document 01, "The planner's task": materials at a cost within bounds, and the limits on them.
-use Prim.Native.Nat.{ℕ}
-use lib.IntN.{ℤ, _*ℤ_}
+-- Document 01, "The planner's task": materials at a cost within bounds, the limits on them, and the recipes that keep both.
+use Prim.Native.Nat.{ℕ, _<_}
+use lib.IntN.{ℤ, pos, _*ℤ_}
+use lib.Signed.{_≤ℤ_, _<ℤ_}
 use Rattle.integer.specs.Sum.{sumTo}
 
 -- n materials and m limits, the step length p/D, and the figures of material j and limit i
@@ -32,3 +33,14 @@ module _ (P : Problem) where
   -- what limit i bounds by b_i: Σ_j a_ij·x_j
   unfoldable pub loadOf : (ℕ → ℤ) → ℕ → ℤ
   loadOf x i = sumTo (P .materials) (λ j. P .coefficient i j *ℤ x j)
+
+-- A feasible point ("lawful recipe"): whole amounts y over the positive divisor d, with l_j ≤ y_j/d ≤ u_j and Σ_j a_ij·y_j/d ≤ b_i, multiplied out.
+pub record Feasible (P : Problem) (d : ℤ) (y : ℕ → ℤ) : Type 0 where
+  pub divisor : pos 0 <ℤ d
+  pub above : (j : ℕ) → j < P .materials → (d *ℤ P .least j) ≤ℤ y j
+  pub below : (j : ℕ) → j < P .materials → y j ≤ℤ (d *ℤ P .most j)
+  pub within : (i : ℕ) → i < P .limits → loadOf P y i ≤ℤ (d *ℤ P .bound i)
+
+-- there is none
+abbrev pub NoneFeasible : Problem → Type 0
+NoneFeasible P = (d : ℤ) (y : ℕ → ℤ) → Feasible P d y → ⊥
