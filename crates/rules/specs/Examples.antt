@@ -2,13 +2,14 @@
 use Prim.Native.Nat.{ℕ, _+_, _*_}
 use Prim.Native.String.{String}
 use mathlib.Core.Path.{_≡_, refl}
-use mathlib.Core.List.{List, [], _∷_, _++_}
+use mathlib.Core.List.{List, [], _∷_, _++_, map}
 use mathlib.Core.Option.{none}
 use lib.ListN.{replicate}
 use lib.IntN.{pos}
 use Rattle.rules.specs.declared.Answer.the-variants.{Plan, Refused}
 use Rattle.rules.specs.declared.Cause.{Cause}
-use Rattle.rules.specs.declared.Cause.the-variants.{Short, Dimensions, Length, Parameters, Key, Value, Bounds, Buffer, Infeasible}
+use Rattle.rules.specs.declared.Cause.the-variants.{Short, Dimensions, Length, Parameters, Key, Value, Bounds, Buffer, Infeasible, Diverged}
+use Rattle.rules.specs.Bytes.{signedAt}
 use Rattle.rules.specs.Sheet.{sheetLength}
 use Rattle.rules.specs.Ranges.{neg}
 use Rattle.rules.specs.Refusals.{layoutRefusal}
@@ -74,10 +75,15 @@ ends =
     turned (replicate 12 255) 42 Dimensions 0 "refused 2 0\n" ∷
     turned (written 0 0 1 1 1 []) 42 Dimensions 0 "refused 2 0\n" ∷
     turned (written 1 17 1 1 1 []) 42 Dimensions 0 "refused 2 0\n" ∷
+    -- both bytes of n, m and e count
+    turned (sizes (257 ∷ 0 ∷ 0 ∷ 1 ∷ 1 ∷ 1 ∷ [])) 42 Dimensions 0 "refused 2 0\n" ∷
+    turned (sizes (1 ∷ 256 ∷ 0 ∷ 1 ∷ 1 ∷ 1 ∷ [])) 42 Dimensions 0 "refused 2 0\n" ∷
+    turned (sizes (1 ∷ 0 ∷ 256 ∷ 1 ∷ 1 ∷ 1 ∷ [])) 42 Dimensions 0 "refused 2 0\n" ∷
     turned (C7 .sheet ++ (0 ∷ [])) 42 Length 0 "refused 3 0\n" ∷
     turned (written 1 0 0 1 1 []) 42 Parameters 0 "refused 4 0\n" ∷
     turned (written 1 0 1025 1 1 []) 42 Parameters 0 "refused 4 0\n" ∷
     turned (written 1 0 1 1025 1 []) 42 Parameters 0 "refused 4 0\n" ∷
+    turned (written 1 0 1 1 0 []) 42 Parameters 0 "refused 4 0\n" ∷
     turned (written 1 0 1 1 4097 []) 42 Parameters 0 "refused 4 0\n" ∷
     -- row m+3; column n+1 in a limit's row; column n in row 2; the largest key
     turned (written 1 0 1 1 1 (192 ∶ pos 1 ∷ [])) 42 Key 0 "refused 5 0\n" ∷
@@ -87,9 +93,14 @@ ends =
     turned (written 1 1 1 1 1 (0 ∶ pos 10001 ∷ [])) 42 Value 0 "refused 6 0\n" ∷
     turned (written 1 1 1 1 1 (0 ∶ neg 10001 ∷ [])) 42 Value 0 "refused 6 0\n" ∷
     turned (written 1 1 1 1 1 (64 ∶ neg 1 ∷ [])) 42 Value 0 "refused 6 0\n" ∷
+    turned (written 1 1 1 1 1 (64 ∶ pos 1001 ∷ [])) 42 Value 0 "refused 6 0\n" ∷
     turned (written 1 1 1 1 1 (128 ∶ pos 1001 ∷ [])) 42 Value 0 "refused 6 0\n" ∷
     turned (written 1 1 1 1 1 (192 ∶ neg 1001 ∷ [])) 42 Value 0 "refused 6 0\n" ∷
+    turned (written 1 1 1 1 1 (192 ∶ pos 1001 ∷ [])) 42 Value 0 "refused 6 0\n" ∷
+    turned (written 1 1 1 1 1 (193 ∶ neg 32000001 ∷ [])) 42 Value 0 "refused 6 0\n" ∷
     turned (written 1 1 1 1 1 (192 ∶ pos 1 ∷ 193 ∶ pos 32000001 ∷ [])) 42 Value 1 "refused 6 1\n" ∷
+    -- a multiplier of 325·3,303,821 = 2^30 + 1, at the second limit
+    turned (written 1 2 325 1 1 (257 ∶ neg 3303821 ∷ [])) 50 Diverged 0 "refused 10 0\n" ∷
     -- every figure at an end of its range: cost −10,000, least 1, most 1,000, a 1,000, b −32,000,000
     record {
       sheet = written 1 1 1 1 1 (0 ∶ neg 10000 ∷ 64 ∶ pos 1 ∷ 128 ∶ pos 1000 ∷ 192 ∶ pos 1000 ∷ 193 ∶ neg 32000000 ∷ []);
@@ -110,7 +121,12 @@ ends =
 
 pub ends-hold : All ends
 unfolding Holds All
-ends-hold = ((refl, refl, refl), ((refl, refl, refl), ((refl, refl, refl), ((refl, refl, refl), ((refl, refl, refl), ((refl, refl, refl), ((refl, refl, refl), ((refl, refl, refl), ((refl, refl, refl), ((refl, refl, refl), ((refl, refl, refl), ((refl, refl, refl), ((refl, refl, refl), ((refl, refl, refl), ((refl, refl, refl), ((refl, refl, refl), ((refl, refl, refl), ((refl, refl, refl), ((refl, refl, refl), ((refl, refl, refl), ((refl, refl, refl), tt)))))))))))))))))))))
+ends-hold = ((refl, refl, refl), ((refl, refl, refl), ((refl, refl, refl), ((refl, refl, refl), ((refl, refl, refl), ((refl, refl, refl), ((refl, refl, refl), ((refl, refl, refl), ((refl, refl, refl), ((refl, refl, refl), ((refl, refl, refl), ((refl, refl, refl), ((refl, refl, refl), ((refl, refl, refl), ((refl, refl, refl), ((refl, refl, refl), ((refl, refl, refl), ((refl, refl, refl), ((refl, refl, refl), ((refl, refl, refl), ((refl, refl, refl), ((refl, refl, refl), ((refl, refl, refl), ((refl, refl, refl), ((refl, refl, refl), ((refl, refl, refl), ((refl, refl, refl), ((refl, refl, refl), ((refl, refl, refl), tt)))))))))))))))))))))))))))))
+
+-- signed numbers of one byte
+pub signed-bytes : map (λ b. signedAt 1 (b ∷ []) 0) (0 ∷ 127 ∷ 128 ∷ 255 ∷ []) ≡ pos 0 ∷ pos 127 ∷ neg 128 ∷ neg 1 ∷ []
+unfolding Holds
+signed-bytes = refl
 
 -- the largest sizes are read
 pub largest-sizes : layoutRefusal (written 32 16 1024 1024 4096 []) ≡ none
@@ -140,6 +156,17 @@ steps =
       bytes = hex "0200 0200 0300 1000000000000000 faffffffffffffff 04000000 05000000 0a000000 04000000 0500000000000000 0200000000000000";
       listing = text "steps 3\nmat 0 4\nmat 1 5\nlim 0 10 5\nlim 1 4 2\nlow 16\ngap -6\n";
     } ∷
+    -- More limits than materials, D = 10, k = 2: cost 1, most 10, x ≤ 5,000 and −2x ≤ −15. By hand:
+    -- step 0: M = 0, 0; weight 10; amount 0; misses −5,000, 15; value 0.
+    -- step 1: M = 0, 15; weight 10−30 = −20; amount 10; misses −4,990, −5; value 10·10 + 15·(−5) = 25.
+    -- Closing M = 0, 10; sum 10; overshoots −9,990, 10; low 25; gap 10·10 − 2·25 = 50.
+    record {
+      sheet = written 1 2 1 10 2 (0 ∶ pos 1 ∷ 128 ∶ pos 10 ∷ 192 ∶ pos 1 ∷ 193 ∶ pos 5000 ∷ 256 ∶ neg 2 ∷ 257 ∶ neg 15 ∷ []);
+      room = 50;
+      answer = Plan (pos 25) (pos 50);
+      bytes = hex "0100 0200 0200 1900000000000000 3200000000000000 0a000000 00000000 0a000000 fad8ffffffffffff 0a00000000000000";
+      listing = text "steps 2\nmat 0 10\nlim 0 0 -9990\nlim 1 10 10\nlow 25\ngap 50\n";
+    } ∷
     -- A negative cost: the greatest cost is −2·1, with the least amount, and not −2·3. Cost −2, from 1 to 3, x ≤ 2, k = 2. By hand:
     -- step 0: M = 0; weight −2; amount 3; miss 1; value −6. Step 1: M = 1; weight −1; amount 3; miss 1; value −6 + 1 = −5, which −2 allows.
     record {
@@ -153,4 +180,4 @@ steps =
 
 pub steps-hold : All steps
 unfolding Holds All
-steps-hold = ((refl, refl, refl), ((refl, refl, refl), tt))
+steps-hold = ((refl, refl, refl), ((refl, refl, refl), ((refl, refl, refl), tt)))

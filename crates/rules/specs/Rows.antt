@@ -1,4 +1,4 @@
--- How a table of sheets is written down and held against the definitions. Nothing else uses what is here.
+-- How a table of sheets is written down and held against the definitions. Only Marked and Examples use what is here.
 use Prim.Native.Nat.{ℕ, _+_, _-_, _*_}
 use Prim.Native.String.{String}
 use mathlib.Core.Path.{_≡_}

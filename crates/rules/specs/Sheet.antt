@@ -26,16 +26,18 @@ pub record Sheet : Type 0 where
 
 -- The sizes come first, 2 bytes each; then e keys of 2 bytes; then e values of 4 bytes, signed.
 abbrev pub sheetOf : List ℕ → Sheet
-sheetOf s = record {
-  materials = unsignedAt 2 s 0;
-  limits = unsignedAt 2 s 2;
-  entries = unsignedAt 2 s 4;
-  numerator = unsignedAt 2 s 6;
-  scale = unsignedAt 2 s 8;
-  steps = unsignedAt 2 s 10;
-  key = λ i. unsignedAt 2 s (12 + 2 * i);
-  value = λ i. signedAt 4 s (12 + 2 * unsignedAt 2 s 4 + 4 * i);
-}
+sheetOf s =
+    let e = unsignedAt 2 s 4 in
+    record {
+      materials = unsignedAt 2 s 0;
+      limits = unsignedAt 2 s 2;
+      entries = e;
+      numerator = unsignedAt 2 s 6;
+      scale = unsignedAt 2 s 8;
+      steps = unsignedAt 2 s 10;
+      key = λ i. unsignedAt 2 s (12 + 2 * i);
+      value = λ i. signedAt 4 s (12 + 2 * e + 4 * i);
+    }
 
 -- the length of a sheet of e entries
 abbrev pub sheetLength : ℕ → ℕ
