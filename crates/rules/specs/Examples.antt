@@ -9,7 +9,7 @@ use lib.IntN.{pos}
 use Rattle.rules.specs.declared.Answer.the-variants.{Plan, Refused}
 use Rattle.rules.specs.declared.Cause.{Cause}
 use Rattle.rules.specs.declared.Cause.the-variants.{Short, Dimensions, Length, Parameters, Key, Value, Bounds, Buffer, Infeasible, Diverged}
-use Rattle.rules.specs.Bytes.{signedAt}
+use Rattle.rules.specs.Bytes.{signedAt, unsignedBytes}
 use Rattle.rules.specs.Sheet.{sheetLength}
 use Rattle.rules.specs.Ranges.{neg}
 use Rattle.rules.specs.Refusals.{layoutRefusal}
@@ -18,29 +18,29 @@ use Rattle.rules.specs.Rows.{_∶_, sizes, written, hex, Row, Holds, All
 use Rattle.rules.specs.Marked.{C1, C3, C7}
 
 -- a row for a refusal
-abbrev turned : List ℕ → ℕ → Cause → ℕ → String → Row
-turned sheet room cause place listing =
+abbrev refusal-row : List ℕ → ℕ → Cause → ℕ → String → Row
+refusal-row sheet room cause place listing =
     record { sheet = sheet; room = room; answer = Refused (record { place = place; cause = cause }); bytes = []; listing = text listing }
 
 -- ---- the examples of the table; those of 7, 9 and 10 are C10, C3 and C5
 abbrev pub examples : List Row
 examples =
     -- 11 bytes
-    turned (replicate 11 0) 42 Short 0 "refused 1 0\n" ∷
+    refusal-row (replicate 11 0) 42 Short 0 "refused 1 0\n" ∷
     -- n = 33
-    turned (written 33 0 1 1 1 []) 42 Dimensions 0 "refused 2 0\n" ∷
+    refusal-row (written 33 0 1 1 1 []) 42 Dimensions 0 "refused 2 0\n" ∷
     -- e = 1, 12 bytes
-    turned (sizes (1 ∷ 0 ∷ 1 ∷ 1 ∷ 1 ∷ 1 ∷ [])) 42 Length 0 "refused 3 0\n" ∷
+    refusal-row (sizes (1 ∷ 0 ∷ 1 ∷ 1 ∷ 1 ∷ 1 ∷ [])) 42 Length 0 "refused 3 0\n" ∷
     -- D = 0
-    turned (written 1 0 1 0 1 []) 42 Parameters 0 "refused 4 0\n" ∷
+    refusal-row (written 1 0 1 0 1 []) 42 Parameters 0 "refused 4 0\n" ∷
     -- keys 1, 1 with n = 2
-    turned (written 2 0 1 1 1 (1 ∶ pos 5 ∷ 1 ∶ pos 5 ∷ [])) 42 Key 1 "refused 5 1\n" ∷
+    refusal-row (written 2 0 1 1 1 (1 ∶ pos 5 ∷ 1 ∶ pos 5 ∷ [])) 42 Key 1 "refused 5 1\n" ∷
     -- key 0, value 0
-    turned (written 1 0 1 1 1 (0 ∶ pos 0 ∷ [])) 42 Value 0 "refused 6 0\n" ∷
+    refusal-row (written 1 0 1 1 1 (0 ∶ pos 0 ∷ [])) 42 Value 0 "refused 6 0\n" ∷
     -- C1, 41 bytes
-    turned (C1 .sheet) 41 Buffer 42 "refused 8 42\n" ∷
+    refusal-row (C1 .sheet) 41 Buffer 42 "refused 8 42\n" ∷
     -- a bad value before a bad key: 5, not 6
-    turned (written 1 0 1 1 1 (0 ∶ pos 0 ∷ 1 ∶ pos 1 ∷ [])) 42 Key 1 "refused 5 1\n" ∷
+    refusal-row (written 1 0 1 1 1 (0 ∶ pos 0 ∷ 1 ∶ pos 1 ∷ [])) 42 Key 1 "refused 5 1\n" ∷
     []
 
 pub examples-hold : All examples
@@ -51,17 +51,17 @@ examples-hold = ((refl, refl, refl), ((refl, refl, refl), ((refl, refl, refl), (
 abbrev pub order : List Row
 order =
     -- e above its bound, though the length fits: 2, not 5
-    turned (written 1 0 1 1 1 (0 ∶ pos 1 ∷ 64 ∶ pos 1 ∷ 128 ∶ pos 1 ∷ 192 ∶ pos 1 ∷ [])) 42 Dimensions 0 "refused 2 0\n" ∷
+    refusal-row (written 1 0 1 1 1 (0 ∶ pos 1 ∷ 64 ∶ pos 1 ∷ 128 ∶ pos 1 ∷ 192 ∶ pos 1 ∷ [])) 42 Dimensions 0 "refused 2 0\n" ∷
     -- a byte too many and k = 0: 3, not 4
-    turned (written 1 0 1 1 0 [] ++ (0 ∷ [])) 42 Length 0 "refused 3 0\n" ∷
+    refusal-row (written 1 0 1 1 0 [] ++ (0 ∷ [])) 42 Length 0 "refused 3 0\n" ∷
     -- a bad value and a least amount above the most: 6, not 7
-    turned (written 1 0 1 1 1 (64 ∶ pos 4 ∷ 128 ∶ neg 1 ∷ [])) 42 Value 1 "refused 6 1\n" ∷
+    refusal-row (written 1 0 1 1 1 (64 ∶ pos 4 ∷ 128 ∶ neg 1 ∷ [])) 42 Value 1 "refused 6 1\n" ∷
     -- a least amount above the most and a short buffer: 7, not 8
-    turned (written 2 0 1 1 1 (65 ∶ pos 1 ∷ [])) 0 Bounds 1 "refused 7 1\n" ∷
+    refusal-row (written 2 0 1 1 1 (65 ∶ pos 1 ∷ [])) 0 Bounds 1 "refused 7 1\n" ∷
     -- C3 with a short buffer: 8, not 9
-    turned (C3 .sheet) 37 Buffer 38 "refused 8 38\n" ∷
+    refusal-row (C3 .sheet) 37 Buffer 38 "refused 8 38\n" ∷
     -- C6 with k 2: at step 1 the value is 2^50, above 0, and the multiplier would be 2^31: 9, not 10
-    turned (written 1 1 1024 1 2 (193 ∶ neg 1048576 ∷ [])) 38 Infeasible 1 "refused 9 1\n" ∷
+    refusal-row (written 1 1 1024 1 2 (193 ∶ neg 1048576 ∷ [])) 38 Infeasible 1 "refused 9 1\n" ∷
     []
 
 pub order-holds : All order
@@ -71,36 +71,36 @@ order-holds = ((refl, refl, refl), ((refl, refl, refl), ((refl, refl, refl), ((r
 -- ---- the ends of the ranges
 abbrev pub ends : List Row
 ends =
-    turned [] 42 Short 0 "refused 1 0\n" ∷
-    turned (replicate 12 255) 42 Dimensions 0 "refused 2 0\n" ∷
-    turned (written 0 0 1 1 1 []) 42 Dimensions 0 "refused 2 0\n" ∷
-    turned (written 1 17 1 1 1 []) 42 Dimensions 0 "refused 2 0\n" ∷
+    refusal-row [] 42 Short 0 "refused 1 0\n" ∷
+    refusal-row (replicate 12 255) 42 Dimensions 0 "refused 2 0\n" ∷
+    refusal-row (written 0 0 1 1 1 []) 42 Dimensions 0 "refused 2 0\n" ∷
+    refusal-row (written 1 17 1 1 1 []) 42 Dimensions 0 "refused 2 0\n" ∷
     -- both bytes of n, m and e count
-    turned (sizes (257 ∷ 0 ∷ 0 ∷ 1 ∷ 1 ∷ 1 ∷ [])) 42 Dimensions 0 "refused 2 0\n" ∷
-    turned (sizes (1 ∷ 256 ∷ 0 ∷ 1 ∷ 1 ∷ 1 ∷ [])) 42 Dimensions 0 "refused 2 0\n" ∷
-    turned (sizes (1 ∷ 0 ∷ 256 ∷ 1 ∷ 1 ∷ 1 ∷ [])) 42 Dimensions 0 "refused 2 0\n" ∷
-    turned (C7 .sheet ++ (0 ∷ [])) 42 Length 0 "refused 3 0\n" ∷
-    turned (written 1 0 0 1 1 []) 42 Parameters 0 "refused 4 0\n" ∷
-    turned (written 1 0 1025 1 1 []) 42 Parameters 0 "refused 4 0\n" ∷
-    turned (written 1 0 1 1025 1 []) 42 Parameters 0 "refused 4 0\n" ∷
-    turned (written 1 0 1 1 0 []) 42 Parameters 0 "refused 4 0\n" ∷
-    turned (written 1 0 1 1 4097 []) 42 Parameters 0 "refused 4 0\n" ∷
+    refusal-row (sizes (257 ∷ 0 ∷ 0 ∷ 1 ∷ 1 ∷ 1 ∷ [])) 42 Dimensions 0 "refused 2 0\n" ∷
+    refusal-row (sizes (1 ∷ 256 ∷ 0 ∷ 1 ∷ 1 ∷ 1 ∷ [])) 42 Dimensions 0 "refused 2 0\n" ∷
+    refusal-row (sizes (1 ∷ 0 ∷ 256 ∷ 1 ∷ 1 ∷ 1 ∷ [])) 42 Dimensions 0 "refused 2 0\n" ∷
+    refusal-row (C7 .sheet ++ (0 ∷ [])) 42 Length 0 "refused 3 0\n" ∷
+    refusal-row (written 1 0 0 1 1 []) 42 Parameters 0 "refused 4 0\n" ∷
+    refusal-row (written 1 0 1025 1 1 []) 42 Parameters 0 "refused 4 0\n" ∷
+    refusal-row (written 1 0 1 1025 1 []) 42 Parameters 0 "refused 4 0\n" ∷
+    refusal-row (written 1 0 1 1 0 []) 42 Parameters 0 "refused 4 0\n" ∷
+    refusal-row (written 1 0 1 1 4097 []) 42 Parameters 0 "refused 4 0\n" ∷
     -- row m+3; column n+1 in a limit's row; column n in row 2; the largest key
-    turned (written 1 0 1 1 1 (192 ∶ pos 1 ∷ [])) 42 Key 0 "refused 5 0\n" ∷
-    turned (written 1 1 1 1 1 (194 ∶ pos 1 ∷ [])) 42 Key 0 "refused 5 0\n" ∷
-    turned (written 1 0 1 1 1 (129 ∶ pos 1 ∷ [])) 42 Key 0 "refused 5 0\n" ∷
-    turned (written 1 0 1 1 1 (65535 ∶ pos 1 ∷ [])) 42 Key 0 "refused 5 0\n" ∷
-    turned (written 1 1 1 1 1 (0 ∶ pos 10001 ∷ [])) 42 Value 0 "refused 6 0\n" ∷
-    turned (written 1 1 1 1 1 (0 ∶ neg 10001 ∷ [])) 42 Value 0 "refused 6 0\n" ∷
-    turned (written 1 1 1 1 1 (64 ∶ neg 1 ∷ [])) 42 Value 0 "refused 6 0\n" ∷
-    turned (written 1 1 1 1 1 (64 ∶ pos 1001 ∷ [])) 42 Value 0 "refused 6 0\n" ∷
-    turned (written 1 1 1 1 1 (128 ∶ pos 1001 ∷ [])) 42 Value 0 "refused 6 0\n" ∷
-    turned (written 1 1 1 1 1 (192 ∶ neg 1001 ∷ [])) 42 Value 0 "refused 6 0\n" ∷
-    turned (written 1 1 1 1 1 (192 ∶ pos 1001 ∷ [])) 42 Value 0 "refused 6 0\n" ∷
-    turned (written 1 1 1 1 1 (193 ∶ neg 32000001 ∷ [])) 42 Value 0 "refused 6 0\n" ∷
-    turned (written 1 1 1 1 1 (192 ∶ pos 1 ∷ 193 ∶ pos 32000001 ∷ [])) 42 Value 1 "refused 6 1\n" ∷
+    refusal-row (written 1 0 1 1 1 (192 ∶ pos 1 ∷ [])) 42 Key 0 "refused 5 0\n" ∷
+    refusal-row (written 1 1 1 1 1 (194 ∶ pos 1 ∷ [])) 42 Key 0 "refused 5 0\n" ∷
+    refusal-row (written 1 0 1 1 1 (129 ∶ pos 1 ∷ [])) 42 Key 0 "refused 5 0\n" ∷
+    refusal-row (written 1 0 1 1 1 (65535 ∶ pos 1 ∷ [])) 42 Key 0 "refused 5 0\n" ∷
+    refusal-row (written 1 1 1 1 1 (0 ∶ pos 10001 ∷ [])) 42 Value 0 "refused 6 0\n" ∷
+    refusal-row (written 1 1 1 1 1 (0 ∶ neg 10001 ∷ [])) 42 Value 0 "refused 6 0\n" ∷
+    refusal-row (written 1 1 1 1 1 (64 ∶ neg 1 ∷ [])) 42 Value 0 "refused 6 0\n" ∷
+    refusal-row (written 1 1 1 1 1 (64 ∶ pos 1001 ∷ [])) 42 Value 0 "refused 6 0\n" ∷
+    refusal-row (written 1 1 1 1 1 (128 ∶ pos 1001 ∷ [])) 42 Value 0 "refused 6 0\n" ∷
+    refusal-row (written 1 1 1 1 1 (192 ∶ neg 1001 ∷ [])) 42 Value 0 "refused 6 0\n" ∷
+    refusal-row (written 1 1 1 1 1 (192 ∶ pos 1001 ∷ [])) 42 Value 0 "refused 6 0\n" ∷
+    refusal-row (written 1 1 1 1 1 (193 ∶ neg 32000001 ∷ [])) 42 Value 0 "refused 6 0\n" ∷
+    refusal-row (written 1 1 1 1 1 (192 ∶ pos 1 ∷ 193 ∶ pos 32000001 ∷ [])) 42 Value 1 "refused 6 1\n" ∷
     -- a multiplier of 325·3,303,821 = 2^30 + 1, at the second limit
-    turned (written 1 2 325 1 1 (257 ∶ neg 3303821 ∷ [])) 50 Diverged 0 "refused 10 0\n" ∷
+    refusal-row (written 1 2 325 1 1 (257 ∶ neg 3303821 ∷ [])) 50 Diverged 0 "refused 10 0\n" ∷
     -- every figure at an end of its range: cost −10,000, least 1, most 1,000, a 1,000, b −32,000,000
     record {
       sheet = written 1 1 1 1 1 (0 ∶ neg 10000 ∷ 64 ∶ pos 1 ∷ 128 ∶ pos 1000 ∷ 192 ∶ pos 1000 ∷ 193 ∶ neg 32000000 ∷ []);
@@ -123,8 +123,8 @@ pub ends-hold : All ends
 unfolding Holds All
 ends-hold = ((refl, refl, refl), ((refl, refl, refl), ((refl, refl, refl), ((refl, refl, refl), ((refl, refl, refl), ((refl, refl, refl), ((refl, refl, refl), ((refl, refl, refl), ((refl, refl, refl), ((refl, refl, refl), ((refl, refl, refl), ((refl, refl, refl), ((refl, refl, refl), ((refl, refl, refl), ((refl, refl, refl), ((refl, refl, refl), ((refl, refl, refl), ((refl, refl, refl), ((refl, refl, refl), ((refl, refl, refl), ((refl, refl, refl), ((refl, refl, refl), ((refl, refl, refl), ((refl, refl, refl), ((refl, refl, refl), ((refl, refl, refl), ((refl, refl, refl), ((refl, refl, refl), ((refl, refl, refl), tt)))))))))))))))))))))))))))))
 
--- signed numbers of one byte
-pub signed-bytes : map (λ b. signedAt 1 (b ∷ []) 0) (0 ∷ 127 ∷ 128 ∷ 255 ∷ []) ≡ pos 0 ∷ pos 127 ∷ neg 128 ∷ neg 1 ∷ []
+-- signed numbers of four bytes: the bytes of 0, 2^31 − 1, 2^31 and 2^32 − 1
+pub signed-bytes : map (λ v. signedAt 4 (unsignedBytes 4 v) 0) (0 ∷ 2147483647 ∷ 2147483648 ∷ 4294967295 ∷ []) ≡ pos 0 ∷ pos 2147483647 ∷ neg 2147483648 ∷ neg 1 ∷ []
 unfolding Holds
 signed-bytes = refl
 

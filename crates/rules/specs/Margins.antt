@@ -1,4 +1,4 @@
--- Document 01, "What demand 3 speaks of": one claim about the answer to a sheet's bytes. Its proof is the crate `margins`.
+-- Document 01, "What demand 3 speaks of": one claim about the answer to a sheet's bytes. Only the statement: nothing here proves it.
 use mathlib.Core.Path.{_≡_}
 use mathlib.Core.List.{List}
 use Prim.Native.Nat.{ℕ, _<_}
@@ -20,7 +20,7 @@ pub record PlanMargins (P : Problem) (k : ℕ) (gap : ℤ) : Type 0 where
   pub excess : (d : ℤ) (y : ℕ → ℤ) → Feasible P d y →
       (d *ℤ (pos (P .scale) *ℤ costOf P (at (planAfter P k .sums))) -ℤ pos k *ℤ (pos (P .scale) *ℤ costOf P y)) ≤ℤ (d *ℤ gap)
   -- for each limit i: p·residual total ≤ closing multiplier
-  pub residuals : (i : ℕ) → i < P .limits →
+  pub residualTotals : (i : ℕ) → i < P .limits →
       (pos (P .numerator) *ℤ at (planAfter P k .residualTotals) i) ≤ℤ at (planAfter P k .multipliers) i
   -- 2·p·gap + Σ_i (closing multiplier)² ≤ p²·Σ_t Σ_i residual², over steps 0 to k−1
   pub squares :

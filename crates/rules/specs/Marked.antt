@@ -11,12 +11,15 @@ use Rattle.rules.specs.Ranges.{neg}
 use Rattle.rules.specs.Step.{reducedCost, greatestCost}
 use Rattle.rules.specs.Run.{stateAfter, stepAt}
 use Rattle.rules.specs.Listing.{text}
-use Rattle.rules.specs.Rows.{_∶_, written, hex, Row, Holds, All}
+use Rattle.rules.specs.Rows.{Entry, _∶_, written, hex, Row, Holds, All}
+
+abbrev entries-C1 : List Entry
+entries-C1 = 0 ∶ pos 3 ∷ 1 ∶ pos 1 ∷ 128 ∶ pos 10 ∷ 129 ∶ pos 10 ∷ 192 ∶ neg 2 ∷ 193 ∶ neg 1 ∷ 194 ∶ neg 12 ∷ []
 
 -- Multipliers go 0, 12, 14, 0, 12; step values are 0, 104, 68, 0. Step 1 has a tie at material 0.
 abbrev pub C1 : Row
 C1 = record {
-  sheet = written 2 1 1 8 4 (0 ∶ pos 3 ∷ 1 ∶ pos 1 ∷ 128 ∶ pos 10 ∷ 129 ∶ pos 10 ∷ 192 ∶ neg 2 ∷ 193 ∶ neg 1 ∷ 194 ∶ neg 12 ∷ []);
+  sheet = written 2 1 1 8 4 entries-C1;
   room = 44;
   answer = Plan (pos 104) (neg 16);
   bytes = hex "0200 0100 0400 6800000000000000 f0ffffffffffffff 0a000000 14000000 0c000000 0800000000000000";
@@ -26,17 +29,20 @@ C1 = record {
 -- C1 with k 1
 abbrev pub C2 : Row
 C2 = record {
-  sheet = written 2 1 1 8 1 (0 ∶ pos 3 ∷ 1 ∶ pos 1 ∷ 128 ∶ pos 10 ∷ 129 ∶ pos 10 ∷ 192 ∶ neg 2 ∷ 193 ∶ neg 1 ∷ 194 ∶ neg 12 ∷ []);
+  sheet = written 2 1 1 8 1 entries-C1;
   room = 42;
   answer = Plan (pos 0) (pos 0);
   bytes = hex "0200 0100 0100 0000000000000000 0000000000000000 00000000 00000000 0c000000 0c00000000000000";
   listing = text "steps 1\nmat 0 0\nmat 1 0\nlim 0 12 12\nlow 0\ngap 0\n";
 }
 
+abbrev entries-C3 : List Entry
+entries-C3 = 0 ∶ pos 1 ∷ 128 ∶ pos 1 ∷ 192 ∶ neg 1 ∷ 193 ∶ neg 5 ∷ []
+
 -- refused 9 at 1: step value 21, greatest cost 1
 abbrev pub C3 : Row
 C3 = record {
-  sheet = written 1 1 1 1 2 (0 ∶ pos 1 ∷ 128 ∶ pos 1 ∷ 192 ∶ neg 1 ∷ 193 ∶ neg 5 ∷ []);
+  sheet = written 1 1 1 1 2 entries-C3;
   room = 38;
   answer = Refused (record { place = 1; cause = Infeasible });
   bytes = [];
@@ -46,7 +52,7 @@ C3 = record {
 -- C3 with k 1
 abbrev pub C4 : Row
 C4 = record {
-  sheet = written 1 1 1 1 1 (0 ∶ pos 1 ∷ 128 ∶ pos 1 ∷ 192 ∶ neg 1 ∷ 193 ∶ neg 5 ∷ []);
+  sheet = written 1 1 1 1 1 entries-C3;
   room = 40;
   answer = Plan (pos 0) (pos 0);
   bytes = hex "0100 0100 0100 0000000000000000 0000000000000000 00000000 05000000 0500000000000000";

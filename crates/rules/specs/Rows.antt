@@ -19,7 +19,7 @@ use Rattle.rules.specs.Step.{anyBelow, reducedCost, amount, residual, du
 use Rattle.rules.specs.Run.{startingMultiplier, start, stateAfter, stepAt, gapAfter, planAfter}
 use Rattle.rules.specs.Record.{fields, recordOf, recordLength}
 use Rattle.rules.specs.Refusals.{numberOf, numbered, refuse, _otherwise_, firstBelow, notAbove, badKey, badValue, crossed, layoutRefusal, refusalBeforeSteps}
-use Rattle.rules.specs.Answers.{Outcome, outcome, stepRefusal, refusal, planOf, outcomeOf, answer, bufferOf, bufferAfter}
+use Rattle.rules.specs.Answers.{outcome, stepRefusal, refusal, planOf, outcomeOf, answer, bufferOf, bufferAfter}
 use Rattle.rules.specs.Listing.{text, digits, decimal, spaced, line, lines, planText, textOf, listing}
 
 -- ---- how a row is written
