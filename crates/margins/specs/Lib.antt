@@ -1,0 +1,13 @@
+pub mod Minimal
+pub mod Lagrangian
+pub mod FourFacts
+pub mod CostRange
+pub mod WeakDuality
+pub mod IterateRelation
+pub mod Average
+pub mod Tests
+pub mod Run
+pub mod Plans
+pub mod Infeasible
+pub mod Theorem
+pub mod Accepted

@@ -1,0 +1,85 @@
+-- The run of `rules` takes such steps: each has the four facts, and its state after t steps is made of the steps 0 to t−1.
+use mathlib.Core.Path.{_≡_, refl, _∙_}
+use Prim.Native.Nat.{ℕ, zero, suc, _<_}
+use native.Mathlib.Nat.{not-suc-le-zero}
+use lib.IntN.{ℤ, pos, _+ℤ_, _*ℤ_}
+use lib.Signed.{_≤ℤ_, ≤ℤ-refl}
+use Rattle.integer.specs.Order.{≤ℤ-trans, maxℤ, max-cases, max-left, max-right}
+use Rattle.integer.specs.Sum.{sumTo}
+use Rattle.integer.specs.Vector.{at, at-tabulate}
+use Rattle.rules.specs.Problem.{Problem, Feasible, costOf}
+use Rattle.rules.specs.Step.{reducedCost, amount, residual, dualValue, moved, stepFrom, next}
+use Rattle.rules.specs.Run.{startingMultiplier, start, stateAfter, stepAt}
+use Rattle.margins.specs.Tests.{below-suc}
+use Rattle.margins.specs.Minimal.{AllMinimal, rule-minimal}
+use Rattle.margins.specs.FourFacts.{FourFacts, Steps, four-facts}
+use Rattle.margins.specs.WeakDuality.{weak-duality}
+
+module _ (P : Problem) where
+  -- the multipliers that enter step t, and the step's amounts and residuals
+  abbrev pub entering : ℕ → ℕ → ℤ
+  entering t = at (stateAfter P t .multipliers)
+
+  abbrev pub amounts : ℕ → ℕ → ℤ
+  amounts t = at (stepAt P t .amounts)
+
+  abbrev pub residuals : ℕ → ℕ → ℤ
+  residuals t = at (stepAt P t .residuals)
+
+  -- ---- what a step works out, by its formulas
+  pub amounts-are : (t j : ℕ) → j < P .materials → amounts t j ≡ amount P (entering t) j
+  unfolding stepAt stepFrom
+  amounts-are t j l = at-tabulate (P .materials) (amount P (entering t)) j l
+
+  pub residuals-are : (t i : ℕ) → i < P .limits → residuals t i ≡ residual P (amounts t) i
+  unfolding stepAt stepFrom
+  residuals-are t i l = at-tabulate (P .limits) (residual P (amounts t)) i l
+
+  leaving : (t i : ℕ) → i < P .limits → entering (suc t) i ≡ moved P (entering t) (amounts t) i
+  unfolding stateAfter next stepAt stepFrom
+  leaving t i l = at-tabulate (P .limits) (moved P (entering t) (amounts t)) i l
+
+  -- ---- the four facts of every step
+  rule-1 : (M : ℕ → ℤ) → AllMinimal P (reducedCost P M) (amount P M)
+  unfolding amount
+  rule-1 M j _ = rule-minimal (reducedCost P M j) (P .least j) (P .most j)
+
+  starting-sign : (i : ℕ) → pos 0 ≤ℤ startingMultiplier P i
+  unfolding startingMultiplier
+  starting-sign i = ≤ℤ-refl (pos 0)
+
+  pub entering-sign : (t i : ℕ) → i < P .limits → pos 0 ≤ℤ entering t i
+  unfolding stateAfter start moved
+  entering-sign zero i l = rw (at-tabulate (P .limits) (startingMultiplier P) i l) (starting-sign i)
+  entering-sign (suc t) i l = rw (leaving t i l) (max-left (pos 0) _)
+
+  pub facts : (t : ℕ) → FourFacts P (entering t) (amounts t) (entering (suc t))
+  facts t = four-facts P (entering t) (amounts t) (entering (suc t)) (λ j l. rw (amounts-are t j l) (rule-1 (entering t) j l)) (entering-sign t) (leaving t)
+
+  pub steps : (k : ℕ) → Steps P k entering amounts
+  steps k t _ = facts t
+
+  -- ---- the totals
+  pub sums-are : (k j : ℕ) → j < P .materials → at (stateAfter P k .sums) j ≡ sumTo k (λ t. amounts t j)
+  unfolding stateAfter start next sumTo stepAt
+  sums-are zero j l = at-tabulate (P .materials) (λ _. pos 0) j l
+  sums-are (suc k) j l = at-tabulate (P .materials) (λ j. at (stateAfter P k .sums) j +ℤ amounts k j) j l ∙ rw (sums-are k j l)
+
+  pub totals-are : (k i : ℕ) → i < P .limits → at (stateAfter P k .residualTotals) i ≡ sumTo k (λ t. residual P (amounts t) i)
+  unfolding stateAfter start next sumTo stepAt
+  totals-are zero i l = at-tabulate (P .limits) (λ _. pos 0) i l
+  totals-are (suc k) i l = at-tabulate (P .limits) (λ i. at (stateAfter P k .residualTotals) i +ℤ residuals k i) i l ∙ rw (totals-are k i l, residuals-are k i l)
+
+  -- ---- low: no dual value of the steps is above it ..
+  pub low-highest : (k t : ℕ) → t < k → dualValue P (entering t) (amounts t) ≤ℤ stateAfter P k .lowerBound
+  unfolding stateAfter next stepAt stepFrom
+  low-highest zero = λ t l. absurd (not-suc-le-zero l)
+  low-highest (suc k) =
+      below-suc k (λ t. dualValue P (entering t) (amounts t) ≤ℤ maxℤ (stateAfter P k .lowerBound) (stepAt P k .dualValue))
+      (λ t l. ≤ℤ-trans (low-highest k t l) (max-left (stateAfter P k .lowerBound) _)) (max-right (stateAfter P k .lowerBound) _)
+
+  -- .. and it is above the cost of no feasible point
+  pub low-lower : (k : ℕ) (d : ℤ) (y : ℕ → ℤ) → Feasible P d y → (d *ℤ stateAfter P k .lowerBound) ≤ℤ (pos (P .scale) *ℤ costOf P y)
+  unfolding stateAfter start next stepAt stepFrom
+  low-lower zero d y f = weak-duality (four-facts P (startingMultiplier P) (amount P (startingMultiplier P)) _ (rule-1 (startingMultiplier P)) (λ i _. starting-sign i) (λ i _. refl)) d y f
+  low-lower (suc k) d y f = max-cases _ _ (λ m. (d *ℤ m) ≤ℤ (pos (P .scale) *ℤ costOf P y)) (λ _. weak-duality (facts k) d y f) (λ _. low-lower k d y f)
