@@ -42,16 +42,9 @@ pub record Accepted (P : Problem) (k : ℕ) : Type 0 where
   pub coefficient-in : (i : ℕ) → i < P .limits → (j : ℕ) → j < P .materials → Bnd (P .coefficient i j) 1000
   pub bound-in : (i : ℕ) → i < P .limits → Bnd (P .bound i) 32000000
 
--- ---- the least and the most amount, bounded on both sides as the other figures are
-amount-bnd : {x : ℤ} → pos 0 ≤ℤ x → x ≤ℤ pos 1000 → Bnd x 1000
-amount-bnd h k = bnd-between (≤ℤ-trans (leZ-yes tt) h) k
-
-module _ {P : Problem} {k : ℕ} (a : Accepted P k) (j : ℕ) (l : j < P .materials) where
-  pub least-bnd : Bnd (P .least j) 1000
-  least-bnd = amount-bnd (a .least-sign j l) (≤ℤ-trans (a .ordered j l) (a .most-in j l))
-
-  pub most-bnd : Bnd (P .most j) 1000
-  most-bnd = amount-bnd (≤ℤ-trans (a .least-sign j l) (a .ordered j l)) (a .most-in j l)
+-- what lies between the bounds of a material is at most 1,000
+pub amount-bnd : {P : Problem} {k : ℕ} → Accepted P k → (j : ℕ) → j < P .materials → {x : ℤ} → P .least j ≤ℤ x → x ≤ℤ P .most j → Bnd x 1000
+amount-bnd a j l above below = bnd-between (≤ℤ-trans (leZ-yes tt) (≤ℤ-trans (a .least-sign j l) above)) (≤ℤ-trans below (a .most-in j l))
 
 -- ---- the tests that the ranges follow from, each over the whole sheet
 record Passed (S : Sheet) : Type 0 where

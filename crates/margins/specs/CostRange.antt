@@ -5,12 +5,12 @@ use native.Mathlib.Omega.{arith}
 use lib.IntN.{ℤ, pos, negℤ, _*ℤ_, negℤ-negℤ}
 use lib.Signed.{_≤ℤ_, ltZ, ltZ-yes, ltZ-no}
 use Rattle.integer.specs.Parts.{difs, as-dif}
-use Rattle.integer.specs.Order.{<ℤ→≤ℤ}
-use Rattle.integer.specs.Ring.{neg-*ℤ, *ℤ-neg}
+use Rattle.integer.specs.Order.{<ℤ→≤ℤ, *ℤ-mono-l, pos-nonneg}
+use Rattle.integer.specs.Ring.{neg-*ℤ, *ℤ-neg, one-*ℤ}
 use Rattle.integer.specs.Sum.{sumTo-neg}
 use Rattle.rules.specs.Problem.{Problem, costOf}
 use Rattle.rules.specs.Step.{greatestCost}
-use Rattle.margins.specs.Minimal.{Minimal, choice-minimal, rule-minimal, WithinBounds, sum-least}
+use Rattle.margins.specs.Minimal.{AllMinimal, choice-minimal, rule-minimal, WithinBounds, sum-least}
 
 module _ (P : Problem) where
   -- u_j where c_j is negative, else l_j
@@ -19,17 +19,31 @@ module _ (P : Problem) where
 
   module _ (d : ℤ) (y : ℕ → ℤ) (within : WithinBounds P d y) where
     -- d·cheapest ≤ c·y
-    pub cost-above : (d *ℤ cheapestCost) ≤ℤ costOf P y
+    cost-above : (d *ℤ cheapestCost) ≤ℤ costOf P y
     unfolding cheapestCost costOf
     cost-above = sum-least P (P .cost) _ (λ j _. rule-minimal (P .cost j) (P .least j) (P .most j)) d y within
 
     -- c·y ≤ d·greatest, since the greatest cost is the cheapest for the costs −c
     pub cost-below : costOf P y ≤ℤ (d *ℤ greatestCost P)
     unfolding greatestCost costOf
-    cost-below = turned _ _ (simp (neg-*ℤ, sumTo-neg, *ℤ-neg) at (sum-least P (λ j. negℤ (P .cost j)) _ (λ j _. choice (P .cost j) (P .least j) (P .most j)) d y within))
+    cost-below = turned _ _ (simp (neg-*ℤ, sumTo-neg, *ℤ-neg) at (sum-least P (λ j. negℤ (P .cost j)) _ choice d y within))
       where
         turned : (X Y : ℤ) → negℤ X ≤ℤ negℤ Y → Y ≤ℤ X
         turned X Y = rw (as-dif X, as-dif Y) (simp difs (omega arith))
 
-        choice : (c l u : ℤ) → Minimal (negℤ c) l u (cond (ltZ (pos 0) c) u l)
-        choice c l u = choice-minimal (ltZ (pos 0) c) (negℤ c) l u (λ t. turned (pos 0) (negℤ c) (rw negℤ-negℤ (<ℤ→≤ℤ (ltZ-yes t)))) (λ t. turned (negℤ c) (pos 0) (rw negℤ-negℤ (ltZ-no t)))
+        choice : AllMinimal P (λ j. negℤ (P .cost j)) (λ j. cond (ltZ (pos 0) (P .cost j)) (P .most j) (P .least j))
+        choice j _ = choice-minimal (ltZ (pos 0) (P .cost j)) (negℤ (P .cost j)) (P .least j) (P .most j)
+            (λ t. turned (pos 0) (negℤ (P .cost j)) (rw negℤ-negℤ (<ℤ→≤ℤ (ltZ-yes t))))
+            (λ t. turned (negℤ (P .cost j)) (pos 0) (rw negℤ-negℤ (ltZ-no t)))
+
+-- z lies from D times the cheapest to D times the greatest cost
+pub record InCostRange (P : Problem) (z : ℤ) : Type 0 where
+  pub above : (pos (P .scale) *ℤ cheapestCost P) ≤ℤ z
+  pub below : z ≤ℤ (pos (P .scale) *ℤ greatestCost P)
+
+-- as D times the cost of whole amounts within the bounds does
+pub cost-in-range : (P : Problem) (x : ℕ → ℤ) → WithinBounds P (pos 1) x → InCostRange P (pos (P .scale) *ℤ costOf P x)
+cost-in-range P x within = record {
+  above = *ℤ-mono-l (pos-nonneg (P .scale)) (rw one-*ℤ at (cost-above P (pos 1) x within));
+  below = *ℤ-mono-l (pos-nonneg (P .scale)) (rw one-*ℤ at (cost-below P (pos 1) x within));
+}

@@ -1,5 +1,6 @@
 -- What the proofs use of a step: four facts about the multipliers M that enter it, its amounts x, and the multipliers M′ that leave it.
--- A step of the method has them, whichever end it takes at a reduced cost of 0 and whatever multipliers, none of them negative, it enters with.
+-- A step of source document 004, equations (7) and (8), has them, whichever end it takes at a reduced cost of 0, and whatever multipliers, none of
+-- them negative, it enters with.
 use mathlib.Core.Path.{_≡_}
 use Prim.Native.Nat.{ℕ, suc, _<_}
 use lib.IntN.{ℤ, pos, _+ℤ_, _*ℤ_}
@@ -12,13 +13,13 @@ use Rattle.margins.specs.Minimal.{AllMinimal, WithinBounds}
 use Rattle.margins.specs.Lagrangian.{lagrangian, minimum}
 
 pub record FourFacts (P : Problem) (M x M′ : ℕ → ℤ) : Type 0 where
-  -- F1, the minimum: d·V ≤ the Lagrangian at M and every point y/d within the bounds
+  -- F1, the minimum: d·V ≤ the Lagrangian at M and at every point y/d within the bounds
   pub minimum : (d : ℤ) (y : ℕ → ℤ) → WithinBounds P d y → (d *ℤ dualValue P M x) ≤ℤ lagrangian P M d y
   -- F2, the move up: M + p·residual ≤ M′
   pub up : (i : ℕ) → i < P .limits → (M i +ℤ pos (P .numerator) *ℤ residual P x i) ≤ℤ M′ i
-  -- F3, the move's size: M′² ≤ (M + p·residual)²
+  -- F3, the size of the move: M′² ≤ (M + p·residual)²
   pub size : (i : ℕ) → i < P .limits → square (M′ i) ≤ℤ square (M i +ℤ pos (P .numerator) *ℤ residual P x i)
-  -- F4, the sign
+  -- F4, the sign: 0 ≤ M
   pub sign : (i : ℕ) → i < P .limits → pos 0 ≤ℤ M i
 
 -- k steps one after the other: M t enters step t, x t are its amounts, and M k is left at the end

@@ -13,7 +13,7 @@ use Rattle.rules.specs.Run.{stepAt}
 use Rattle.rules.specs.Refusals.{Numbered, refuse, _otherwise_, firstBelow, layoutRefusal, refusalBeforeSteps}
 use Rattle.rules.specs.Answers.{stepRefusal, refusal}
 use Rattle.margins.specs.WeakDuality.{none-feasible}
-use Rattle.margins.specs.Run.{facts}
+use Rattle.margins.specs.RunSteps.{facts}
 
 -- what demand 3 says of a refusal, if there is one
 abbrev pub Sound : Problem → Option Numbered → Type 0

@@ -1,4 +1,4 @@
--- The Lagrangian of source document 004, equation (4): the cost, and each limit's excess at the price of its multiplier.
+-- The Lagrangian of source document 004, equation (4): the cost, and each limit's excess times its multiplier.
 -- F1: a step's dual value is its minimum over the bounds.
 use mathlib.Core.Path.{_≡_}
 use mathlib.Core.List.{[], _∷_}
@@ -18,28 +18,33 @@ module _ (P : Problem) where
   unfoldable pub lagrangian : (M : ℕ → ℤ) (d : ℤ) (y : ℕ → ℤ) → ℤ
   lagrangian M d y = pos (P .scale) *ℤ costOf P y +ℤ sumTo (P .limits) (λ i. M i *ℤ (loadOf P y i -ℤ d *ℤ P .bound i))
 
-  -- at whole amounts, d = 1, it is what `rules` calls the dual value of these amounts
+  -- at whole amounts, d = 1, it is what `rules` calls their dual value
   pub at-whole : (M x : ℕ → ℤ) → lagrangian M (pos 1) x ≡ dualValue P M x
   unfolding lagrangian dualValue residual
   at-whole M x = simp one-*ℤ
 
-  -- without prices it is D·c·x
+  -- at multipliers of 0 that is D·c·x
   pub at-zero : (x : ℕ → ℤ) → dualValue P (λ _. pos 0) x ≡ pos (P .scale) *ℤ costOf P x
   unfolding dualValue
   at-zero x = simp (zero-*ℤ, sumTo-none, +ℤ-idr)
 
-  -- the limits' loads at their prices are the materials at theirs: Σ_i M_i·(a_i·y) = Σ_j (Σ_i M_i·a_ij)·y_j
-  priced-loads : (M y : ℕ → ℤ) → sumTo (P .limits) (λ i. M i *ℤ loadOf P y i) ≡ sumTo (P .materials) (λ j. sumTo (P .limits) (λ i. M i *ℤ P .coefficient i j) *ℤ y j)
+  -- two sums in the other order: Σ_i M_i·(a_i·y) = Σ_j (Σ_i M_i·a_ij)·y_j
+  loads-by-materials : (M y : ℕ → ℤ)
+      → sumTo (P .limits) (λ i. M i *ℤ loadOf P y i) ≡ sumTo (P .materials) (λ j. sumTo (P .limits) (λ i. M i *ℤ P .coefficient i j) *ℤ y j)
   unfolding loadOf
-  priced-loads M y = simp (← sumTo-scale, ← sumTo-scale-r, *ℤ-assoc) (sumTo-swap (P .limits) (P .materials) (λ i j. M i *ℤ (P .coefficient i j *ℤ y j)))
+  loads-by-materials M y =
+      simp (← sumTo-scale, ← sumTo-scale-r, *ℤ-assoc) (sumTo-swap (P .limits) (P .materials) (λ i j. M i *ℤ (P .coefficient i j *ℤ y j)))
 
-  -- by materials it is Σ_j w_j·y_j − d·Σ_i M_i·b_i, with the reduced costs w_j
-  by-materials : (M : ℕ → ℤ) (d : ℤ) (y : ℕ → ℤ) → lagrangian M d y ≡ sumTo (P .materials) (λ j. reducedCost P M j *ℤ y j) -ℤ d *ℤ sumTo (P .limits) (λ i. M i *ℤ P .bound i)
+  -- by materials the Lagrangian is Σ_j w_j·y_j − d·Σ_i M_i·b_i, with the reduced costs w_j
+  by-materials : (M : ℕ → ℤ) (d : ℤ) (y : ℕ → ℤ)
+      → lagrangian M d y ≡ sumTo (P .materials) (λ j. reducedCost P M j *ℤ y j) -ℤ d *ℤ sumTo (P .limits) (λ i. M i *ℤ P .bound i)
   unfolding lagrangian reducedCost costOf
-  by-materials M d y = simp (*ℤ--ℤ, sumTo-sub, priced-loads, +ℤ-*ℤ, sumTo-add, ← sumTo-scale, *ℤ-assoc, *ℤ-left-comm, +ℤ-assoc)
+  by-materials M d y =
+      simp (*ℤ--ℤ, sumTo-sub, loads-by-materials, +ℤ-*ℤ, sumTo-add, ← sumTo-scale, *ℤ-assoc, *ℤ-left-comm, +ℤ-assoc)
 
   -- F1, the minimum: d·V ≤ D·c·y + Σ_i M_i·(a_i·y − d·b_i) at every point y/d within the bounds
-  pub minimum : (M x : ℕ → ℤ) → AllMinimal P (reducedCost P M) x → (d : ℤ) (y : ℕ → ℤ) → WithinBounds P d y → (d *ℤ dualValue P M x) ≤ℤ lagrangian M d y
+  pub minimum : (M x : ℕ → ℤ) → AllMinimal P (reducedCost P M) x
+      → (d : ℤ) (y : ℕ → ℤ) → WithinBounds P d y → (d *ℤ dualValue P M x) ≤ℤ lagrangian M d y
   minimum M x minimal d y within =
       rw (← at-whole M x, by-materials M (pos 1) x, by-materials M d y) (shift d _ _ _ (sum-least P (reducedCost P M) x minimal d y within))
     where

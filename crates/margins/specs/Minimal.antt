@@ -1,5 +1,6 @@
--- Where a linear function Σ_j w_j·x_j is least over the bounds: at the end that the sign of each weight w_j picks. Source document 004, equation (8).
--- At a weight of 0 every amount will do, so that any rule for ties is allowed.
+-- Where a linear function Σ_j w_j·x_j is least over the bounds: at the ends that the signs of the w_j pick.
+-- For the reduced costs w_j this is the minimum of source document 004, equation (8). Where w_j is 0 every amount will do, so that any rule for
+-- ties is allowed.
 use mathlib.Core.Path.{_≡_, refl}
 use mathlib.Core.Logic.{inl, inr}
 use mathlib.Core.Bool.{Bool, true, false, not, cond}
@@ -14,13 +15,14 @@ use Rattle.integer.specs.Solve.{lit, _⊖_, _⊗_, _≼_, _⊢_, omegaℤ}
 use Rattle.integer.specs.Sum.{sumTo, sumTo-mono, sumTo-scale}
 use Rattle.rules.specs.Problem.{Problem, Feasible}
 
--- x is an end of the bounds l and u at which w·x is least, or any amount where w is 0
+-- ---- one material
+-- x minimises w·x between l and u
 pub record Minimal (w l u x : ℤ) : Type 0 where
   pub at-most : w <ℤ pos 0 → x ≡ u
   pub at-least : pos 0 <ℤ w → x ≡ l
 
--- to choose an end by a test b: u only where w ≤ 0, and l only where w ≥ 0
-pub choice-minimal : (b : Bool) (w l u : ℤ) → (T b → w ≤ℤ pos 0) → (T (not b) → pos 0 ≤ℤ w) → Minimal w l u (cond b u l)
+-- to choose an end by a test: u only where w ≤ 0, and l only where w ≥ 0
+pub choice-minimal : (test : Bool) (w l u : ℤ) → (T test → w ≤ℤ pos 0) → (T (not test) → pos 0 ≤ℤ w) → Minimal w l u (cond test u l)
 choice-minimal true w l u nonpos nonneg = record { at-most = λ _. refl; at-least = λ h. clashℤ h (nonpos tt) }
 choice-minimal false w l u nonpos nonneg = record { at-most = λ h. clashℤ h (nonneg tt); at-least = λ _. refl }
 
@@ -44,6 +46,11 @@ term-least {w} {l} {u} {x} minimal d y above below = elim (≤ℤ-total (pos 0) 
     rising : (w l d y : ℤ) → pos 0 ≤ℤ ((w -ℤ pos 0) *ℤ (y -ℤ d *ℤ l)) → (d *ℤ (w *ℤ l)) ≤ℤ (w *ℤ y)
     rising = omegaℤ 4 (λ w l d y. (lit 0 ≼ (w ⊖ lit 0) ⊗ (y ⊖ d ⊗ l)) ∷ [] ⊢ d ⊗ (w ⊗ l) ≼ w ⊗ y) (omega arith)
 
+-- ---- all materials
+-- the amounts x minimise Σ_j w_j·x_j
+abbrev pub AllMinimal : Problem → (w x : ℕ → ℤ) → Type 0
+AllMinimal P w x = (j : ℕ) → j < P .materials → Minimal (w j) (P .least j) (P .most j) (x j)
+
 -- the point y/d keeps the bounds of every material
 pub record WithinBounds (P : Problem) (d : ℤ) (y : ℕ → ℤ) : Type 0 where
   pub above : (j : ℕ) → j < P .materials → (d *ℤ P .least j) ≤ℤ y j
@@ -51,10 +58,6 @@ pub record WithinBounds (P : Problem) (d : ℤ) (y : ℕ → ℤ) : Type 0 where
 
 pub feasible-within : {P : Problem} {d : ℤ} {y : ℕ → ℤ} → Feasible P d y → WithinBounds P d y
 feasible-within f = record { above = f .above; below = f .below }
-
--- the amounts x minimise Σ_j w_j·x_j
-abbrev pub AllMinimal : Problem → (w x : ℕ → ℤ) → Type 0
-AllMinimal P w x = (j : ℕ) → j < P .materials → Minimal (w j) (P .least j) (P .most j) (x j)
 
 -- no point y/d within the bounds has a smaller sum: d·Σ_j w_j·x_j ≤ Σ_j w_j·y_j
 pub sum-least : (P : Problem) (w x : ℕ → ℤ) → AllMinimal P w x → (d : ℤ) (y : ℕ → ℤ) → WithinBounds P d y

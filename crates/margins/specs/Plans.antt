@@ -1,9 +1,7 @@
--- Every plan has its margins: weak duality gives the excess, Proposition 1(a) the residual totals and Proposition 1(b) the squares, from multipliers of 0.
+-- Every plan has its margins: weak duality gives the excess, Proposition 1(a) the residual totals, and Proposition 1(b) the squares.
 use mathlib.Core.Path.{_≡_, ap, _∙_}
 use Prim.Native.Nat.{ℕ, _<_}
-use native.Mathlib.Omega.{arith}
-use lib.IntN.{ℤ, pos, _+ℤ_, _-ℤ_, _*ℤ_, +ℤ-idl, +ℤ-idr}
-use lib.Signed.{_≤ℤ_}
+use lib.IntN.{pos, _*ℤ_, +ℤ-idl, +ℤ-idr}
 use Rattle.integer.specs.Sum.{sumTo, sumTo-cong, sumTo-none}
 use Rattle.integer.specs.Vector.{at, at-tabulate}
 use Rattle.rules.specs.Problem.{Problem, costOf}
@@ -12,8 +10,9 @@ use Rattle.rules.specs.Run.{startingMultiplier, start, stateAfter, gapAfter, pl
 use Rattle.rules.specs.Margins.{square, PlanMargins}
 use Rattle.margins.specs.WeakDuality.{excess}
 use Rattle.margins.specs.IterateRelation.{norm²}
-use Rattle.margins.specs.Average.{proposition-1a, proposition-1b}
-use Rattle.margins.specs.Run.{entering, amounts, residuals, residuals-are, steps, sums-are, totals-are, low-highest, low-lower}
+use Rattle.margins.specs.Violation.{proposition-1a}
+use Rattle.margins.specs.PrimalCost.{proposition-1b}
+use Rattle.margins.specs.RunSteps.{entering, amounts, residuals, residuals-are, steps, sums-are, totals-are, low-above-values, low-below-costs}
 
 module _ (P : Problem) where
   -- ---- the run begins at 0
@@ -21,10 +20,10 @@ module _ (P : Problem) where
   unfolding stateAfter start startingMultiplier
   starts-at-zero i l = at-tabulate (P .limits) (startingMultiplier P) i l
 
-  no-start-squares : norm² P (entering P 0) ≡ pos 0
-  no-start-squares = sumTo-cong (P .limits) _ (λ _. pos 0) (λ i l. ap square (starts-at-zero i l)) ∙ sumTo-none (P .limits)
+  no-starting-squares : norm² P (entering P 0) ≡ pos 0
+  no-starting-squares = sumTo-cong (P .limits) _ (λ _. pos 0) (λ i l. ap square (starts-at-zero i l)) ∙ sumTo-none (P .limits)
 
-  -- ---- the figures of the plan are those of its steps
+  -- ---- the figures of a plan are those of its steps
   cost-of-sums : (k : ℕ) → costOf P (at (stateAfter P k .sums)) ≡ costOf P (λ j. sumTo k (λ t. amounts P t j))
   unfolding costOf
   cost-of-sums k = sumTo-cong (P .materials) _ _ (λ j l. ap (λ a. P .cost j *ℤ a) (sums-are P k j l))
@@ -35,7 +34,9 @@ module _ (P : Problem) where
   pub plan-margins : (k : ℕ) → PlanMargins P k (gapAfter P k)
   unfolding gapAfter planAfter
   plan-margins k = record {
-    excess = λ d y f. excess k d _ _ _ (low-lower P k d y f);
+    excess = λ d y f. excess k d _ _ _ (low-below-costs P k d y f);
     residualTotals = λ i l. rw (totals-are P k i l) (simp (starts-at-zero i l, +ℤ-idr) at (proposition-1a (steps P k) i l));
-    squares = rw (cost-of-sums k, squared-residuals k) (simp (no-start-squares, +ℤ-idl) at (proposition-1b (steps P k) (stateAfter P k .lowerBound) (low-highest P k)));
+    squares =
+        rw (cost-of-sums k, squared-residuals k)
+        (simp (no-starting-squares, +ℤ-idl) at (proposition-1b (steps P k) (stateAfter P k .lowerBound) (low-above-values P k)));
   }

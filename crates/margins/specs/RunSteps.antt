@@ -1,4 +1,4 @@
--- The run of `rules` takes such steps: each has the four facts, and its state after t steps is made of the steps 0 to t−1.
+-- The run of `rules` takes such steps: each has the four facts, and the state after k steps is made of the steps 0 to k−1.
 use mathlib.Core.Path.{_≡_, refl, _∙_}
 use Prim.Native.Nat.{ℕ, zero, suc, _<_}
 use native.Mathlib.Nat.{not-suc-le-zero}
@@ -16,7 +16,7 @@ use Rattle.margins.specs.FourFacts.{FourFacts, Steps, four-facts}
 use Rattle.margins.specs.WeakDuality.{weak-duality}
 
 module _ (P : Problem) where
-  -- the multipliers that enter step t, and the step's amounts and residuals
+  -- the multipliers that enter step t, its amounts and its residuals
   abbrev pub entering : ℕ → ℕ → ℤ
   entering t = at (stateAfter P t .multipliers)
 
@@ -39,7 +39,7 @@ module _ (P : Problem) where
   unfolding stateAfter next stepAt stepFrom
   leaving t i l = at-tabulate (P .limits) (moved P (entering t) (amounts t)) i l
 
-  -- ---- the four facts of every step
+  -- ---- the four facts
   rule-1 : (M : ℕ → ℤ) → AllMinimal P (reducedCost P M) (amount P M)
   unfolding amount
   rule-1 M j _ = rule-minimal (reducedCost P M j) (P .least j) (P .most j)
@@ -54,7 +54,9 @@ module _ (P : Problem) where
   entering-sign (suc t) i l = rw (leaving t i l) (max-left (pos 0) _)
 
   pub facts : (t : ℕ) → FourFacts P (entering t) (amounts t) (entering (suc t))
-  facts t = four-facts P (entering t) (amounts t) (entering (suc t)) (λ j l. rw (amounts-are t j l) (rule-1 (entering t) j l)) (entering-sign t) (leaving t)
+  facts t =
+      four-facts P (entering t) (amounts t) (entering (suc t))
+      (λ j l. rw (amounts-are t j l) (rule-1 (entering t) j l)) (entering-sign t) (leaving t)
 
   pub steps : (k : ℕ) → Steps P k entering amounts
   steps k t _ = facts t
@@ -68,18 +70,24 @@ module _ (P : Problem) where
   pub totals-are : (k i : ℕ) → i < P .limits → at (stateAfter P k .residualTotals) i ≡ sumTo k (λ t. residual P (amounts t) i)
   unfolding stateAfter start next sumTo stepAt
   totals-are zero i l = at-tabulate (P .limits) (λ _. pos 0) i l
-  totals-are (suc k) i l = at-tabulate (P .limits) (λ i. at (stateAfter P k .residualTotals) i +ℤ residuals k i) i l ∙ rw (totals-are k i l, residuals-are k i l)
+  totals-are (suc k) i l =
+      at-tabulate (P .limits) (λ i. at (stateAfter P k .residualTotals) i +ℤ residuals k i) i l ∙ rw (totals-are k i l, residuals-are k i l)
 
   -- ---- low: no dual value of the steps is above it ..
-  pub low-highest : (k t : ℕ) → t < k → dualValue P (entering t) (amounts t) ≤ℤ stateAfter P k .lowerBound
+  pub low-above-values : (k t : ℕ) → t < k → dualValue P (entering t) (amounts t) ≤ℤ stateAfter P k .lowerBound
   unfolding stateAfter next stepAt stepFrom
-  low-highest zero = λ t l. absurd (not-suc-le-zero l)
-  low-highest (suc k) =
+  low-above-values zero = λ t l. absurd (not-suc-le-zero l)
+  low-above-values (suc k) =
       below-suc k (λ t. dualValue P (entering t) (amounts t) ≤ℤ maxℤ (stateAfter P k .lowerBound) (stepAt P k .dualValue))
-      (λ t l. ≤ℤ-trans (low-highest k t l) (max-left (stateAfter P k .lowerBound) _)) (max-right (stateAfter P k .lowerBound) _)
+      (λ t l. ≤ℤ-trans (low-above-values k t l) (max-left (stateAfter P k .lowerBound) _))
+      (max-right (stateAfter P k .lowerBound) _)
 
   -- .. and it is above the cost of no feasible point
-  pub low-lower : (k : ℕ) (d : ℤ) (y : ℕ → ℤ) → Feasible P d y → (d *ℤ stateAfter P k .lowerBound) ≤ℤ (pos (P .scale) *ℤ costOf P y)
+  pub low-below-costs : (k : ℕ) (d : ℤ) (y : ℕ → ℤ) → Feasible P d y → (d *ℤ stateAfter P k .lowerBound) ≤ℤ (pos (P .scale) *ℤ costOf P y)
   unfolding stateAfter start next stepAt stepFrom
-  low-lower zero d y f = weak-duality (four-facts P (startingMultiplier P) (amount P (startingMultiplier P)) _ (rule-1 (startingMultiplier P)) (λ i _. starting-sign i) (λ i _. refl)) d y f
-  low-lower (suc k) d y f = max-cases _ _ (λ m. (d *ℤ m) ≤ℤ (pos (P .scale) *ℤ costOf P y)) (λ _. weak-duality (facts k) d y f) (λ _. low-lower k d y f)
+  low-below-costs zero d y f = weak-duality (four-facts P M (amount P M) (moved P M (amount P M)) (rule-1 M) (λ i _. starting-sign i) (λ _ _. refl)) d y f
+    where
+      M : ℕ → ℤ
+      M = startingMultiplier P
+  low-below-costs (suc k) d y f =
+      max-cases _ _ (λ low. (d *ℤ low) ≤ℤ (pos (P .scale) *ℤ costOf P y)) (λ _. weak-duality (facts k) d y f) (λ _. low-below-costs k d y f)
