@@ -13,28 +13,39 @@ use Rattle.rules.specs.Step.{greatestCost}
 use Rattle.margins.specs.Minimal.{AllMinimal, choice-minimal, rule-minimal, WithinBounds, sum-least}
 
 module _ (P : Problem) where
-  -- u_j where c_j is negative, else l_j
+  -- the ends of the bounds at which material j costs least, and most
+  abbrev pub cheapestEnd : ℕ → ℤ
+  cheapestEnd j = cond (ltZ (P .cost j) (pos 0)) (P .most j) (P .least j)
+
+  abbrev pub greatestEnd : ℕ → ℤ
+  greatestEnd j = cond (ltZ (pos 0) (P .cost j)) (P .most j) (P .least j)
+
   unfoldable pub cheapestCost : ℤ
-  cheapestCost = costOf P (λ j. cond (ltZ (P .cost j) (pos 0)) (P .most j) (P .least j))
+  cheapestCost = costOf P cheapestEnd
+
+  -- they minimise the costs c, and −c
+  pub cheapest-minimal : AllMinimal P (P .cost) cheapestEnd
+  cheapest-minimal j _ = rule-minimal (P .cost j) (P .least j) (P .most j)
+
+  negative : (X Y : ℤ) → negℤ X ≤ℤ negℤ Y → Y ≤ℤ X
+  negative X Y = rw (as-dif X, as-dif Y) (simp difs (omega arith))
+
+  pub greatest-minimal : AllMinimal P (λ j. negℤ (P .cost j)) greatestEnd
+  greatest-minimal j _ =
+      choice-minimal (ltZ (pos 0) (P .cost j)) (negℤ (P .cost j)) (P .least j) (P .most j)
+      (λ t. negative (pos 0) (negℤ (P .cost j)) (rw negℤ-negℤ (<ℤ→≤ℤ (ltZ-yes t))))
+      (λ t. negative (negℤ (P .cost j)) (pos 0) (rw negℤ-negℤ (ltZ-no t)))
 
   module _ (d : ℤ) (y : ℕ → ℤ) (within : WithinBounds P d y) where
     -- d·cheapest ≤ c·y
     cost-above : (d *ℤ cheapestCost) ≤ℤ costOf P y
     unfolding cheapestCost costOf
-    cost-above = sum-least P (P .cost) _ (λ j _. rule-minimal (P .cost j) (P .least j) (P .most j)) d y within
+    cost-above = sum-least P (P .cost) cheapestEnd cheapest-minimal d y within
 
-    -- c·y ≤ d·greatest, since the greatest cost is the cheapest for the costs −c
+    -- c·y ≤ d·greatest
     pub cost-below : costOf P y ≤ℤ (d *ℤ greatestCost P)
     unfolding greatestCost costOf
-    cost-below = turned _ _ (simp (neg-*ℤ, sumTo-neg, *ℤ-neg) at (sum-least P (λ j. negℤ (P .cost j)) _ choice d y within))
-      where
-        turned : (X Y : ℤ) → negℤ X ≤ℤ negℤ Y → Y ≤ℤ X
-        turned X Y = rw (as-dif X, as-dif Y) (simp difs (omega arith))
-
-        choice : AllMinimal P (λ j. negℤ (P .cost j)) (λ j. cond (ltZ (pos 0) (P .cost j)) (P .most j) (P .least j))
-        choice j _ = choice-minimal (ltZ (pos 0) (P .cost j)) (negℤ (P .cost j)) (P .least j) (P .most j)
-            (λ t. turned (pos 0) (negℤ (P .cost j)) (rw negℤ-negℤ (<ℤ→≤ℤ (ltZ-yes t))))
-            (λ t. turned (negℤ (P .cost j)) (pos 0) (rw negℤ-negℤ (ltZ-no t)))
+    cost-below = negative _ _ (simp (neg-*ℤ, sumTo-neg, *ℤ-neg) at (sum-least P (λ j. negℤ (P .cost j)) greatestEnd greatest-minimal d y within))
 
 -- z lies from D times the cheapest to D times the greatest cost
 pub record InCostRange (P : Problem) (z : ℤ) : Type 0 where

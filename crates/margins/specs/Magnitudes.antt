@@ -1,17 +1,17 @@
 -- How large the figures of a step become: each of them, and every sum and product on the way to it, fits 64 signed bits.
 -- The step is any with multipliers of at most 2³⁰ in size and amounts of at most 1,000.
-use mathlib.Core.Bool.{Bool, true, false, cond}
 use Prim.Native.Nat.{ℕ, _*_, _^_, _<_, _≤_}
 use native.Mathlib.Nat.{le-refl, le-trans, lt-of-lt-of-le}
 use lib.Dec.{T, ltb}
 use lib.IntN.{ℤ, pos, _+ℤ_, _*ℤ_}
-use lib.Signed.{_≤ℤ_, ≤ℤ-refl, ltZ}
 use mir.Syntax.{w64}
 use mir.Val.{SFits}
 use Rattle.integer.specs.Range.{Bnd, _b+_, _b-_, _b*_, bnd-of, bnd-sfits}
 use Rattle.integer.specs.Sum.{sumTo, sumTo-bnd}
 use Rattle.rules.specs.Problem.{Problem, costOf, loadOf}
 use Rattle.rules.specs.Step.{reducedCost, residual, dualValue, greatestCost}
+use Rattle.margins.specs.Minimal.{between, AllMinimal}
+use Rattle.margins.specs.CostRange.{greatestEnd, greatest-minimal}
 use Rattle.margins.specs.Accepted.{Accepted, amount-bnd}
 
 -- |z| ≤ B, and B is below 2⁶³
@@ -21,10 +21,6 @@ pub record Fits64 (z : ℤ) (B : ℕ) : Type 0 where
 
 pub fit : {z : ℤ} {B : ℕ} → T (ltb B (2 ^ 63)) → Bnd z B → Fits64 z B
 fit t h = record { bound = h; fits = bnd-sfits t h }
-
--- the end of its bounds at which material j costs most
-abbrev pub greatestEnd : Problem → ℕ → ℤ
-greatestEnd P j = cond (ltZ (pos 0) (P .cost j)) (P .most j) (P .least j)
 
 -- What a step forms from the multipliers M and the amounts x. A sum stands here with any number c of its terms.
 pub record StepMagnitudes (P : Problem) (M x : ℕ → ℤ) : Type 0 where
@@ -59,15 +55,9 @@ module _ {P : Problem} {k : ℕ} (a : Accepted P k) where
   numerator-bnd : Bnd (pos (P .numerator)) 1024
   numerator-bnd = bnd-of (pos (P .numerator)) (a .numerator-small)
 
-  -- ---- an end of the bounds of material j, whichever a test picks, lies between them ..
-  pub end-between : (test : Bool) (j : ℕ) → j < P .materials
-      → (P .least j ≤ℤ cond test (P .most j) (P .least j)) × (cond test (P .most j) (P .least j) ≤ℤ P .most j)
-  end-between true j l = (a .ordered j l, ≤ℤ-refl (P .most j))
-  end-between false j l = (≤ℤ-refl (P .least j), a .ordered j l)
-
-  -- .. and so is at most 1,000
-  pub end-bnd : (test : Bool) (j : ℕ) → j < P .materials → Bnd (cond test (P .most j) (P .least j)) 1000
-  end-bnd test j l = let (above, below) = end-between test j l in amount-bnd a j l above below
+  -- ---- amounts that minimise anything lie between the bounds, and so are at most 1,000
+  pub amounts-bnd : {w x : ℕ → ℤ} → AllMinimal P w x → (j : ℕ) → j < P .materials → Bnd (x j) 1000
+  amounts-bnd minimal j l = let (above, below) = between (minimal j l) (a .ordered j l) in amount-bnd a j l above below
 
   -- ---- sums of c terms, over materials and over limits
   pub over-materials : {B : ℕ} (f : ℕ → ℤ) → ((j : ℕ) → j < P .materials → Bnd (f j) B) → (c : ℕ) → c ≤ P .materials → Bnd (sumTo c f) (32 * B)
@@ -94,9 +84,6 @@ module _ {P : Problem} {k : ℕ} (a : Accepted P k) where
     priced-bnd : (c : ℕ) → c ≤ P .limits → Bnd (sumTo c (λ i. M i *ℤ residual P x i)) 1099511627776000000
     priced-bnd c h = over-limits _ (λ i k. M-in i k b* residual-bnd x x-in i k) c h
 
-    greatest-end-bnd : (j : ℕ) → j < P .materials → Bnd (greatestEnd P j) 1000
-    greatest-end-bnd j l = end-bnd (ltZ (pos 0) (P .cost j)) j l
-
     pub step-magnitudes : StepMagnitudes P M x
     unfolding reducedCost dualValue greatestCost
     step-magnitudes = record {
@@ -113,9 +100,9 @@ module _ {P : Problem} {k : ℕ} (a : Accepted P k) where
       priced-residual = λ i l. fit tt (M-in i l b* residual-bnd x x-in i l);
       priced-residuals = λ c l. fit tt (priced-bnd c l);
       dual-value = fit tt (step-cost-bnd x x-in b+ priced-bnd (P .limits) (le-refl _));
-      greatest-term = λ j l. fit tt (a .cost-in j l b* greatest-end-bnd j l);
-      greatest-terms = λ c l. fit tt (over-materials _ (λ j k. a .cost-in j k b* greatest-end-bnd j k) c l);
-      greatest-cost = fit tt (step-cost-bnd (greatestEnd P) greatest-end-bnd);
+      greatest-term = λ j l. fit tt (a .cost-in j l b* amounts-bnd (greatest-minimal P) j l);
+      greatest-terms = λ c l. fit tt (over-materials _ (λ j k. a .cost-in j k b* amounts-bnd (greatest-minimal P) j k) c l);
+      greatest-cost = fit tt (step-cost-bnd (greatestEnd P) (amounts-bnd (greatest-minimal P)));
       scaled-residual = λ i l. fit tt (numerator-bnd b* residual-bnd x x-in i l);
       uncut = λ i l. fit tt (M-in i l b+ numerator-bnd b* residual-bnd x x-in i l);
     }

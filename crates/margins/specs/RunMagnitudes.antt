@@ -1,32 +1,31 @@
 -- How large the figures of a run become, as long as no step is refused: of every state, and of the step that it enters.
 -- Low lies from D times the cheapest to D times the greatest cost that the bounds allow.
 use mathlib.Core.Path.{_≡_}
-use mathlib.Core.Bool.{Bool, not, cond}
+use mathlib.Core.Bool.{not}
 use mathlib.Core.List.{List}
 use mathlib.Core.Option.{none}
 use Prim.Native.Nat.{ℕ, zero, suc, _<_, _≤_}
 use native.Mathlib.Nat.{le-refl, le-trans}
 use lib.Dec.{T}
-use lib.IntN.{ℤ, pos, _*ℤ_}
-use lib.Signed.{_≤ℤ_, ltZ, ltZ-no, leZ-yes}
+use lib.IntN.{pos, _*ℤ_}
+use lib.Signed.{_≤ℤ_, ltZ-no, leZ-yes}
 use Rattle.integer.specs.Order.{≤ℤ-trans, max-left, max-least}
-use Rattle.integer.specs.Ring.{one-*ℤ}
 use Rattle.integer.specs.Range.{Bnd, _b-_, _b*_, bnd-of, bnd-between, between-bnd}
 use Rattle.integer.specs.Sum.{sumTo, sumTo-bnd}
 use Rattle.integer.specs.Vector.{at, at-tabulate}
 use Rattle.rules.specs.Problem.{Problem, costOf}
 use Rattle.rules.specs.Sheet.{sheetOf, problem}
-use Rattle.rules.specs.Step.{reducedCost, amount, greatestCost, infeasible, diverged, next}
+use Rattle.rules.specs.Step.{greatestCost, infeasible, diverged, next}
 use Rattle.rules.specs.Run.{startingMultiplier, start, stateAfter, stepAt, gapAfter}
 use Rattle.rules.specs.Refusals.{firstBelow, layoutRefusal}
 use Rattle.rules.specs.Answers.{stepRefusal}
-use Rattle.margins.specs.Minimal.{WithinBounds}
+use Rattle.margins.specs.Minimal.{minimal-within}
 use Rattle.margins.specs.Lagrangian.{at-zero}
-use Rattle.margins.specs.CostRange.{cheapestCost, InCostRange, cost-in-range}
+use Rattle.margins.specs.CostRange.{cheapestEnd, greatestEnd, cheapestCost, cheapest-minimal, greatest-minimal, InCostRange, cost-in-range}
 use Rattle.margins.specs.Tests.{any-none, otherwise-none, refuse-none}
-use Rattle.margins.specs.RunSteps.{entering, amounts, amounts-are, entering-sign, sums-are, totals-are}
+use Rattle.margins.specs.RunSteps.{entering, amounts, starting-minimal, amounts-minimal, entering-sign, sums-are, totals-are}
 use Rattle.margins.specs.Accepted.{Accepted, accepted}
-use Rattle.margins.specs.Magnitudes.{Fits64, fit, StepMagnitudes, scale-bnd, end-between, end-bnd, over-materials, residual-bnd, step-cost-bnd, step-magnitudes}
+use Rattle.margins.specs.Magnitudes.{Fits64, fit, StepMagnitudes, scale-bnd, amounts-bnd, over-materials, residual-bnd, step-cost-bnd, step-magnitudes}
 
 -- The state after t steps, and what the gap is formed from.
 pub record StateMagnitudes (P : Problem) (t : ℕ) : Type 0 where
@@ -43,18 +42,6 @@ pub record StateMagnitudes (P : Problem) (t : ℕ) : Type 0 where
   pub gap : Fits64 (gapAfter P t) 2684354560000000
 
 module _ {P : Problem} {k : ℕ} (a : Accepted P k) where
-  -- ---- the amounts of a step lie within the bounds
-  amount-within : (M : ℕ → ℤ) → WithinBounds P (pos 1) (amount P M)
-  unfolding amount
-  amount-within M = record {
-    above = λ j l. rw one-*ℤ (end-between a (ltZ (reducedCost P M j) (pos 0)) j l .0);
-    below = λ j l. rw one-*ℤ (end-between a (ltZ (reducedCost P M j) (pos 0)) j l .1);
-  }
-
-  amounts-bnd : (t j : ℕ) → j < P .materials → Bnd (amounts P t j) 1000
-  unfolding amount
-  amounts-bnd t j l = rw (amounts-are P t j l) (end-bnd a (ltZ (reducedCost P (entering P t) j) (pos 0)) j l)
-
   -- ---- where no step up to t is refused, no step before t was, and step t meets neither rule 3 nor rule 4
   not-refused : (t : ℕ) → stepRefusal P (suc t) ≡ none
       → (stepRefusal P t ≡ none) × T (not (infeasible P (stepAt P t))) × T (not (diverged P (stepAt P t)))
@@ -76,7 +63,7 @@ module _ {P : Problem} {k : ℕ} (a : Accepted P k) where
   -- rule 3 keeps low at most D times the greatest cost; it begins at the cost of amounts within the bounds, and does not fall
   low-range : (t : ℕ) → stepRefusal P t ≡ none → InCostRange P (stateAfter P t .lowerBound)
   unfolding stateAfter start startingMultiplier next infeasible stepAt
-  low-range zero h = rw at-zero (cost-in-range P _ (amount-within (startingMultiplier P)))
+  low-range zero h = rw at-zero (cost-in-range P _ (minimal-within (a .ordered) (starting-minimal P)))
   low-range (suc t) h =
       let (before, feasible, _) = not-refused t h in
       let r = low-range t before in
@@ -87,21 +74,18 @@ module _ {P : Problem} {k : ℕ} (a : Accepted P k) where
   low-bnd t h =
       let r = low-range t h in
       bnd-between
-      (≤ℤ-trans (between-bnd (ends-bnd (λ j. ltZ (P .cost j) (pos 0))) .0) (r .above))
-      (≤ℤ-trans (r .below) (between-bnd (ends-bnd (λ j. ltZ (pos 0) (P .cost j))) .1))
-    where
-      ends-bnd : (test : ℕ → Bool) → Bnd (pos (P .scale) *ℤ costOf P (λ j. cond (test j) (P .most j) (P .least j))) 327680000000
-      ends-bnd test = step-cost-bnd a _ (λ j l. end-bnd a (test j) j l)
+      (≤ℤ-trans (between-bnd (step-cost-bnd a (cheapestEnd P) (amounts-bnd a (cheapest-minimal P))) .0) (r .above))
+      (≤ℤ-trans (r .below) (between-bnd (step-cost-bnd a (greatestEnd P) (amounts-bnd a (greatest-minimal P))) .1))
 
   -- ---- the totals of at most k steps
   module _ (t : ℕ) (few : t ≤ k) where
     sums-bnd : (j : ℕ) → j < P .materials → Bnd (at (stateAfter P t .sums) j) 4096000
-    sums-bnd j l = rw (sums-are P t j l) (sumTo-bnd {N = 4096} t _ (le-trans few (a .steps-few)) (λ s _. amounts-bnd s j l))
+    sums-bnd j l = rw (sums-are P t j l) (sumTo-bnd {N = 4096} t _ (le-trans few (a .steps-few)) (λ s _. amounts-bnd a (amounts-minimal P s) j l))
 
     totals-bnd : (i : ℕ) → i < P .limits → Bnd (at (stateAfter P t .residualTotals) i) 262144000000
     totals-bnd i l =
         rw (totals-are P t i l)
-        (sumTo-bnd {N = 4096} t _ (le-trans few (a .steps-few)) (λ s _. residual-bnd a (amounts P s) (amounts-bnd s) i l))
+        (sumTo-bnd {N = 4096} t _ (le-trans few (a .steps-few)) (λ s _. residual-bnd a (amounts P s) (amounts-bnd a (amounts-minimal P s)) i l))
 
     summed-cost-bnd : (j : ℕ) → j < P .materials → Bnd (P .cost j *ℤ at (stateAfter P t .sums) j) 40960000000
     summed-cost-bnd j l = a .cost-in j l b* sums-bnd j l
@@ -137,4 +121,4 @@ pub magnitudes : (sheet : List ℕ) → layoutRefusal sheet ≡ none
     → (t : ℕ) → t ≤ sheetOf sheet .steps → stepRefusal (problem (sheetOf sheet)) t ≡ none → RunMagnitudes (problem (sheetOf sheet)) t
 magnitudes sheet read t few h =
     let a = accepted sheet read in
-    record { state = state-magnitudes a t few h; step = step-magnitudes a _ _ (multiplier-bnd a t h) (amounts-bnd a t) }
+    record { state = state-magnitudes a t few h; step = step-magnitudes a _ _ (multiplier-bnd a t h) (amounts-bnd a (amounts-minimal (problem (sheetOf sheet)) t)) }

@@ -27,7 +27,7 @@ module _ (P : Problem) where
   residuals t = at (stepAt P t .residuals)
 
   -- ---- what a step works out, by its formulas
-  pub amounts-are : (t j : ℕ) → j < P .materials → amounts t j ≡ amount P (entering t) j
+  amounts-are : (t j : ℕ) → j < P .materials → amounts t j ≡ amount P (entering t) j
   unfolding stepAt stepFrom
   amounts-are t j l = at-tabulate (P .materials) (amount P (entering t)) j l
 
@@ -44,6 +44,12 @@ module _ (P : Problem) where
   unfolding amount
   rule-1 M j _ = rule-minimal (reducedCost P M j) (P .least j) (P .most j)
 
+  pub starting-minimal : AllMinimal P (reducedCost P (startingMultiplier P)) (amount P (startingMultiplier P))
+  starting-minimal = rule-1 (startingMultiplier P)
+
+  pub amounts-minimal : (t : ℕ) → AllMinimal P (reducedCost P (entering t)) (amounts t)
+  amounts-minimal t j l = rw (amounts-are t j l) (rule-1 (entering t) j l)
+
   starting-sign : (i : ℕ) → pos 0 ≤ℤ startingMultiplier P i
   unfolding startingMultiplier
   starting-sign i = ≤ℤ-refl (pos 0)
@@ -54,9 +60,7 @@ module _ (P : Problem) where
   entering-sign (suc t) i l = rw (leaving t i l) (max-left (pos 0) _)
 
   pub facts : (t : ℕ) → FourFacts P (entering t) (amounts t) (entering (suc t))
-  facts t =
-      four-facts P (entering t) (amounts t) (entering (suc t))
-      (λ j l. rw (amounts-are t j l) (rule-1 (entering t) j l)) (entering-sign t) (leaving t)
+  facts t = four-facts P (entering t) (amounts t) (entering (suc t)) (amounts-minimal t) (entering-sign t) (leaving t)
 
   pub steps : (k : ℕ) → Steps P k entering amounts
   steps k t _ = facts t
@@ -85,7 +89,7 @@ module _ (P : Problem) where
   -- .. and it is above the cost of no feasible point
   pub low-below-costs : (k : ℕ) (d : ℤ) (y : ℕ → ℤ) → Feasible P d y → (d *ℤ stateAfter P k .lowerBound) ≤ℤ (pos (P .scale) *ℤ costOf P y)
   unfolding stateAfter start next stepAt stepFrom
-  low-below-costs zero d y f = weak-duality (four-facts P M (amount P M) (moved P M (amount P M)) (rule-1 M) (λ i _. starting-sign i) (λ _ _. refl)) d y f
+  low-below-costs zero d y f = weak-duality (four-facts P M (amount P M) (moved P M (amount P M)) starting-minimal (λ i _. starting-sign i) (λ _ _. refl)) d y f
     where
       M : ℕ → ℤ
       M = startingMultiplier P

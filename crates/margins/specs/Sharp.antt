@@ -18,7 +18,7 @@ use Rattle.rules.specs.Margins.{square, PlanMargins, Margins}
 use Rattle.rules.specs.Rows.{_∶_, written, Holds}
 use Rattle.rules.specs.Marked.{C1, C2, C3}
 use Rattle.margins.specs.Tests.{any-none}
-use Rattle.margins.specs.Minimal.{AllMinimal, WithinBounds}
+use Rattle.margins.specs.Minimal.{most, AllMinimal, WithinBounds}
 use Rattle.margins.specs.Lagrangian.{lagrangian}
 use Rattle.margins.specs.IterateRelation.{norm²}
 use Rattle.margins.specs.RunSteps.{entering}
@@ -138,7 +138,7 @@ unfolding Holds lagrangian
 minimum-other-sign claim = claim one-material (λ _. pos 0) (λ _. pos 1) chosen (pos 1) (λ _. pos 0) within .le
   where
     chosen : AllMinimal one-material (λ j. negℤ (reducedCost one-material (λ _. pos 0) j)) (λ _. pos 1)
-    chosen j l = record { at-most = λ _. refl; at-least = λ h. absurd (h .lt) }
+    chosen j l = most (leZ-yes tt) refl
 
     within : WithinBounds one-material (pos 1) (λ _. pos 0)
     within = record { above = λ j l. leZ-yes tt; below = λ j l. leZ-yes tt }
