@@ -1,11 +1,9 @@
 -- The cheapest and the greatest cost that the bounds allow: no point within the bounds costs less, and none costs more.
 use mathlib.Core.Bool.{cond}
 use Prim.Native.Nat.{ℕ}
-use native.Mathlib.Omega.{arith}
-use lib.IntN.{ℤ, pos, negℤ, _*ℤ_, negℤ-negℤ}
+use lib.IntN.{ℤ, pos, negℤ, _*ℤ_}
 use lib.Signed.{_≤ℤ_, ltZ, ltZ-yes, ltZ-no}
-use Rattle.integer.specs.Parts.{difs, as-dif}
-use Rattle.integer.specs.Order.{<ℤ→≤ℤ, *ℤ-mono-l, pos-nonneg}
+use Rattle.integer.specs.Order.{<ℤ→≤ℤ, negℤ-≤ℤ, *ℤ-mono-l, pos-nonneg}
 use Rattle.integer.specs.Ring.{neg-*ℤ, *ℤ-neg, one-*ℤ}
 use Rattle.integer.specs.Sum.{sumTo-neg}
 use Rattle.rules.specs.Problem.{Problem, costOf}
@@ -27,14 +25,11 @@ module _ (P : Problem) where
   pub cheapest-minimal : AllMinimal P (P .cost) cheapestEnd
   cheapest-minimal j _ = rule-minimal (P .cost j) (P .least j) (P .most j)
 
-  negative : (X Y : ℤ) → negℤ X ≤ℤ negℤ Y → Y ≤ℤ X
-  negative X Y = rw (as-dif X, as-dif Y) (simp difs (omega arith))
-
   pub greatest-minimal : AllMinimal P (λ j. negℤ (P .cost j)) greatestEnd
   greatest-minimal j _ =
       choice-minimal (ltZ (pos 0) (P .cost j)) (negℤ (P .cost j)) (P .least j) (P .most j)
-      (λ t. negative (pos 0) (negℤ (P .cost j)) (rw negℤ-negℤ (<ℤ→≤ℤ (ltZ-yes t))))
-      (λ t. negative (negℤ (P .cost j)) (pos 0) (rw negℤ-negℤ (ltZ-no t)))
+      (λ t. negℤ-≤ℤ (P .cost j) (pos 0) .1 (<ℤ→≤ℤ (ltZ-yes t)))
+      (λ t. negℤ-≤ℤ (pos 0) (P .cost j) .1 (ltZ-no t))
 
   module _ (d : ℤ) (y : ℕ → ℤ) (within : WithinBounds P d y) where
     -- d·cheapest ≤ c·y
@@ -45,7 +40,7 @@ module _ (P : Problem) where
     -- c·y ≤ d·greatest
     pub cost-below : costOf P y ≤ℤ (d *ℤ greatestCost P)
     unfolding greatestCost costOf
-    cost-below = negative _ _ (simp (neg-*ℤ, sumTo-neg, *ℤ-neg) at (sum-least P (λ j. negℤ (P .cost j)) greatestEnd greatest-minimal d y within))
+    cost-below = negℤ-≤ℤ _ _ .0 (simp (neg-*ℤ, sumTo-neg, *ℤ-neg) at (sum-least P (λ j. negℤ (P .cost j)) greatestEnd greatest-minimal d y within))
 
 -- z lies from D times the cheapest to D times the greatest cost
 pub record InCostRange (P : Problem) (z : ℤ) : Type 0 where

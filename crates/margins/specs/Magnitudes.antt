@@ -29,6 +29,7 @@ pub record StepMagnitudes (P : Problem) (M x : ℕ → ℤ) : Type 0 where
   pub price : (i j : ℕ) → i < P .limits → j < P .materials → Fits64 (M i *ℤ P .coefficient i j) 1073741824000
   pub prices : (c j : ℕ) → c ≤ P .limits → j < P .materials → Fits64 (sumTo c (λ i. M i *ℤ P .coefficient i j)) 17179869184000
   pub reduced-cost : (j : ℕ) → j < P .materials → Fits64 (reducedCost P M j) 17179879424000
+  pub amount : (j : ℕ) → j < P .materials → Fits64 (x j) 1000
   -- 2. the residual of limit i
   pub load : (i j : ℕ) → i < P .limits → j < P .materials → Fits64 (P .coefficient i j *ℤ x j) 1000000
   pub loads : (i c : ℕ) → i < P .limits → c ≤ P .materials → Fits64 (sumTo c (λ j. P .coefficient i j *ℤ x j)) 32000000
@@ -91,6 +92,7 @@ module _ {P : Problem} {k : ℕ} (a : Accepted P k) where
       price = λ i j h l. fit tt (M-in i h b* a .coefficient-in i h j l);
       prices = λ c j h l. fit tt (prices-bnd c j h l);
       reduced-cost = λ j l. fit tt (scale-bnd b* a .cost-in j l b+ prices-bnd (P .limits) j (le-refl _) l);
+      amount = λ j l. fit tt (x-in j l);
       load = λ i j h l. fit tt (a .coefficient-in i h j l b* x-in j l);
       loads = λ i c h l. fit tt (over-materials _ (λ j k. a .coefficient-in i h j k b* x-in j k) c l);
       one-residual = λ i l. fit tt (residual-bnd x x-in i l);

@@ -65,7 +65,8 @@ sum-least P w x minimal d y within =
     simp (← sumTo-scale) (sumTo-mono (P .materials) _ _ (λ j l. term-least (minimal j l) d (y j) (within .above j l) (within .below j l)))
 
 -- and such amounts lie within the bounds themselves
-pub minimal-within : {P : Problem} {w x : ℕ → ℤ} → ((j : ℕ) → j < P .materials → P .least j ≤ℤ P .most j) → AllMinimal P w x → WithinBounds P (pos 1) x
+pub minimal-within : {P : Problem} {w x : ℕ → ℤ}
+    → ((j : ℕ) → j < P .materials → P .least j ≤ℤ P .most j) → AllMinimal P w x → WithinBounds P (pos 1) x
 minimal-within ordered minimal = record {
   above = λ j l. rw one-*ℤ (between (minimal j l) (ordered j l) .0);
   below = λ j l. rw one-*ℤ (between (minimal j l) (ordered j l) .1);

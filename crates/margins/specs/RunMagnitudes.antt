@@ -7,10 +7,10 @@ use mathlib.Core.Option.{none}
 use Prim.Native.Nat.{ℕ, zero, suc, _<_, _≤_}
 use native.Mathlib.Nat.{le-refl, le-trans}
 use lib.Dec.{T}
-use lib.IntN.{pos, _*ℤ_}
+use lib.IntN.{pos, _+ℤ_, _*ℤ_}
 use lib.Signed.{_≤ℤ_, ltZ-no, leZ-yes}
 use Rattle.integer.specs.Order.{≤ℤ-trans, max-left, max-least}
-use Rattle.integer.specs.Range.{Bnd, _b-_, _b*_, bnd-of, bnd-between, between-bnd}
+use Rattle.integer.specs.Range.{Bnd, _b+_, _b-_, _b*_, bnd-of, bnd-between, between-bnd}
 use Rattle.integer.specs.Sum.{sumTo, sumTo-bnd}
 use Rattle.integer.specs.Vector.{at, at-tabulate}
 use Rattle.rules.specs.Problem.{Problem, costOf}
@@ -23,7 +23,7 @@ use Rattle.margins.specs.Minimal.{minimal-within}
 use Rattle.margins.specs.Lagrangian.{at-zero}
 use Rattle.margins.specs.CostRange.{cheapestEnd, greatestEnd, cheapestCost, cheapest-minimal, greatest-minimal, InCostRange, cost-in-range}
 use Rattle.margins.specs.Tests.{any-none, otherwise-none, refuse-none}
-use Rattle.margins.specs.RunSteps.{entering, amounts, starting-minimal, amounts-minimal, entering-sign, sums-are, totals-are}
+use Rattle.margins.specs.RunSteps.{entering, amounts, residuals, residuals-are, starting-minimal, amounts-minimal, entering-sign, sums-are, totals-are}
 use Rattle.margins.specs.Accepted.{Accepted, accepted}
 use Rattle.margins.specs.Magnitudes.{Fits64, fit, StepMagnitudes, scale-bnd, amounts-bnd, over-materials, residual-bnd, step-cost-bnd, step-magnitudes}
 
@@ -112,13 +112,28 @@ module _ {P : Problem} {k : ℕ} (a : Accepted P k) where
       gap = fit tt (total-cost-bnd b- counted-low-bnd h);
     }
 
--- The run of a sheet that is read, after t of its steps, none of which is refused: the state, and the step that it enters.
+-- After t steps, none of which is refused: the state, the step that it enters, and what that step adds to the totals.
 pub record RunMagnitudes (P : Problem) (t : ℕ) : Type 0 where
   pub state : StateMagnitudes P t
   pub step : StepMagnitudes P (entering P t) (amounts P t)
+  pub new-sum : (j : ℕ) → j < P .materials → Fits64 (at (stateAfter P t .sums) j +ℤ amounts P t j) 4097000
+  pub new-total : (i : ℕ) → i < P .limits → Fits64 (at (stateAfter P t .residualTotals) i +ℤ residuals P t i) 262208000000
 
+run-magnitudes : {P : Problem} {k : ℕ} → Accepted P k → (t : ℕ) → t ≤ k → stepRefusal P t ≡ none → RunMagnitudes P t
+run-magnitudes {P} a t few h = record {
+  state = state;
+  step = step;
+  new-sum = λ j l. fit tt (state .sum j l .bound b+ step .amount j l .bound);
+  new-total = λ i l. rw (residuals-are P t i l) (fit tt (state .residual-total i l .bound b+ step .one-residual i l .bound));
+}
+  where
+    state : StateMagnitudes P t
+    state = state-magnitudes a t few h
+
+    step : StepMagnitudes P (entering P t) (amounts P t)
+    step = step-magnitudes a (entering P t) (amounts P t) (multiplier-bnd a t h) (amounts-bnd a (amounts-minimal P t))
+
+-- So it is with the run of every sheet that is read.
 pub magnitudes : (sheet : List ℕ) → layoutRefusal sheet ≡ none
     → (t : ℕ) → t ≤ sheetOf sheet .steps → stepRefusal (problem (sheetOf sheet)) t ≡ none → RunMagnitudes (problem (sheetOf sheet)) t
-magnitudes sheet read t few h =
-    let a = accepted sheet read in
-    record { state = state-magnitudes a t few h; step = step-magnitudes a _ _ (multiplier-bnd a t h) (amounts-bnd a (amounts-minimal (problem (sheetOf sheet)) t)) }
+magnitudes sheet read = run-magnitudes (accepted sheet read)

@@ -89,9 +89,8 @@ module _ (P : Problem) where
   -- .. and it is above the cost of no feasible point
   pub low-below-costs : (k : ℕ) (d : ℤ) (y : ℕ → ℤ) → Feasible P d y → (d *ℤ stateAfter P k .lowerBound) ≤ℤ (pos (P .scale) *ℤ costOf P y)
   unfolding stateAfter start next stepAt stepFrom
-  low-below-costs zero d y f = weak-duality (four-facts P M (amount P M) (moved P M (amount P M)) starting-minimal (λ i _. starting-sign i) (λ _ _. refl)) d y f
-    where
-      M : ℕ → ℤ
-      M = startingMultiplier P
-  low-below-costs (suc k) d y f =
+  low-below-costs zero =
+      let M = startingMultiplier P in
+      weak-duality (four-facts P M (amount P M) (moved P M (amount P M)) starting-minimal (λ i _. starting-sign i) (λ _ _. refl))
+  low-below-costs (suc k) = λ d y f.
       max-cases _ _ (λ low. (d *ℤ low) ≤ℤ (pos (P .scale) *ℤ costOf P y)) (λ _. weak-duality (facts k) d y f) (λ _. low-below-costs k d y f)
