@@ -20,8 +20,9 @@ use Rattle.rules.specs.declared.Range.{Range}
 use Rattle.rules.specs.Problem.{Problem}
 use Rattle.rules.specs.Sheet.{Sheet, sheetOf, rowOf, columnOf, valueUnder, figure, problem}
 use Rattle.rules.specs.Ranges.{neg, _to_, ranges, indexOf, rangeOf, kindAt, inRange, between, dimensionsInRange, parametersInRange}
+use Rattle.rules.specs.Run.{startingMultiplier}
 use Rattle.rules.specs.Refusals.{badValue, crossed, layoutRefusal}
-use Rattle.margins.specs.Tests.{otherwise-none, refuse-none, first-none}
+use Rattle.margins.specs.NotRefused.{otherwise-none, refuse-none, first-none}
 
 -- The ranges of a problem and of its step count k.
 pub record Accepted (P : Problem) (k : ℕ) : Type 0 where
@@ -41,10 +42,8 @@ pub record Accepted (P : Problem) (k : ℕ) : Type 0 where
   pub most-in : (j : ℕ) → j < P .materials → P .most j ≤ℤ pos 1000
   pub coefficient-in : (i : ℕ) → i < P .limits → (j : ℕ) → j < P .materials → Bnd (P .coefficient i j) 1000
   pub bound-in : (i : ℕ) → i < P .limits → Bnd (P .bound i) 32000000
-
--- what lies between the bounds of a material is at most 1,000
-pub amount-bnd : {P : Problem} {k : ℕ} → Accepted P k → (j : ℕ) → j < P .materials → {x : ℤ} → P .least j ≤ℤ x → x ≤ℤ P .most j → Bnd x 1000
-amount-bnd a j l above below = bnd-between (≤ℤ-trans (leZ-yes tt) (≤ℤ-trans (a .least-sign j l) above)) (≤ℤ-trans below (a .most-in j l))
+  pub start-sign : (i : ℕ) → i < P .limits → pos 0 ≤ℤ startingMultiplier P i
+  pub start-top : (i : ℕ) → i < P .limits → startingMultiplier P i ≤ℤ pos 1073741824
 
 -- ---- the tests that the ranges follow from, each over the whole sheet
 record Passed (S : Sheet) : Type 0 where
@@ -137,7 +136,7 @@ module _ (S : Sheet) (h : Passed S) where
     figure-bnd a e = figure-cases (λ v. Bnd v a) (bnd-of (pos 0) zero-le) (λ v w. let s = rw e at w in bnd-between (s .low) (s .high))
 
   ranged : Accepted (problem S) (S .steps)
-  unfolding problem dimensionsInRange parametersInRange between kindAt rangeOf ranges indexOf crossed
+  unfolding problem dimensionsInRange parametersInRange between kindAt rangeOf ranges indexOf crossed startingMultiplier
   ranged = record {
     materials-some = search parts;
     materials-few = search parts;
@@ -154,6 +153,8 @@ module _ (S : Sheet) (h : Passed S) where
     most-in = λ j l. figure-cases 2 j (le-of-lt l) (λ v. v ≤ℤ pos 1000) (leZ-yes tt) (λ v w. w .high);
     coefficient-in = λ i _ j l. figure-bnd (3 + i) j (le-of-lt l) 1000 (coefficient-range (S .materials) i j l);
     bound-in = λ i _. figure-bnd (3 + i) (S .materials) (le-refl _) 32000000 (bound-range (S .materials) i);
+    start-sign = λ i _. leZ-yes tt;
+    start-top = λ i _. leZ-yes tt;
   }
 
 -- Where no refusal of the layout is given, the problem of the sheet and its step count lie in their ranges.

@@ -1,60 +1,69 @@
 -- Refusal 9 is given only where there is no feasible point. It comes from rule 3 of a step alone: every other test gives another number.
-use mathlib.Core.Path.{_≡_}
+use mathlib.Core.Path.{_≡_, refl}
 use mathlib.Core.Bool.{Bool, true, false, not}
 use mathlib.Core.List.{List}
 use mathlib.Core.Option.{Option, none, some}
-use Prim.Native.Nat.{ℕ, zero, suc}
+use Prim.Native.Nat.{ℕ, zero, suc, _<_}
 use lib.Dec.{T, eqb}
-use lib.Signed.{ltZ-yes}
+use lib.IntN.{pos}
+use lib.Signed.{_≤ℤ_, ltZ-yes}
 use Rattle.rules.specs.Problem.{Problem, NoneFeasible}
 use Rattle.rules.specs.Sheet.{sheetOf, problem}
 use Rattle.rules.specs.Step.{infeasible, stepFrom}
-use Rattle.rules.specs.Run.{stepAt}
+use Rattle.rules.specs.Run.{startingMultiplier, stepAt}
 use Rattle.rules.specs.Refusals.{Numbered, refuse, _otherwise_, firstBelow, layoutRefusal, refusalBeforeSteps}
 use Rattle.rules.specs.Answers.{stepRefusal, refusal}
+use Rattle.margins.specs.NotRefused.{otherwise-none}
+use Rattle.margins.specs.Accepted.{accepted}
 use Rattle.margins.specs.WeakDuality.{none-feasible}
 use Rattle.margins.specs.RunSteps.{facts}
 
--- what demand 3 says of a refusal, if there is one
-abbrev pub Sound : Problem → Option Numbered → Type 0
-Sound P none = Unit {0}
-Sound P (some r) = r .number ≡ 9 → NoneFeasible P
+-- what demand 3 claims of a refusal, if there is one
+abbrev pub RefusalMargins : Problem → Option Numbered → Type 0
+RefusalMargins P none = Unit {0}
+RefusalMargins P (some r) = r .number ≡ 9 → NoneFeasible P
 
 module _ (P : Problem) where
-  -- ---- through the chain of refusals
-  sound-otherwise : (a b : Option Numbered) → Sound P a → Sound P b → Sound P (a otherwise b)
+  -- ---- the chain of refusals; a later one is given only where there is none before
+  otherwise-margins : (a b : Option Numbered) → RefusalMargins P a → (a ≡ none → RefusalMargins P b) → RefusalMargins P (a otherwise b)
   unfolding _otherwise_
-  sound-otherwise none b h k = k
-  sound-otherwise (some r) b h k = h
+  otherwise-margins none b first second = second refl
+  otherwise-margins (some r) b first second = first
 
-  sound-first : (n : ℕ) (test : ℕ → Option Numbered) → ((i : ℕ) → Sound P (test i)) → Sound P (firstBelow n test)
+  first-margins : (n : ℕ) (test : ℕ → Option Numbered) → ((i : ℕ) → RefusalMargins P (test i)) → RefusalMargins P (firstBelow n test)
   unfolding firstBelow
-  sound-first zero test h = tt
-  sound-first (suc n) test h = sound-otherwise (firstBelow n test) (test n) (sound-first n test h) (h n)
+  first-margins zero test h = tt
+  first-margins (suc n) test h = otherwise-margins (firstBelow n test) (test n) (first-margins n test h) (λ _. h n)
 
-  sound-refuse : (number place : ℕ) (b : Bool) → (T b → number ≡ 9 → NoneFeasible P) → Sound P (refuse number place b)
+  refuse-margins : (number place : ℕ) (test : Bool) → (T test → number ≡ 9 → NoneFeasible P) → RefusalMargins P (refuse number place test)
   unfolding refuse
-  sound-refuse number place true h = h tt
-  sound-refuse number place false h = tt
+  refuse-margins number place true h = h tt
+  refuse-margins number place false h = tt
 
   -- any number but 9
-  sound-other : (number place : ℕ) (b : Bool) → T (not (eqb number 9)) → Sound P (refuse number place b)
-  sound-other number place b other = sound-refuse number place b (λ _ e. absurd (rw e at other))
+  other-margins : (number place : ℕ) (test : Bool) → T (not (eqb number 9)) → RefusalMargins P (refuse number place test)
+  other-margins number place test other = refuse-margins number place test (λ _ e. absurd (rw e at other))
 
-  -- ---- rule 3, and with it the steps
-  sound-step : (t : ℕ) → T (infeasible P (stepAt P t)) → NoneFeasible P
+-- ---- the steps, by rule 3
+module _ (P : Problem) (start-sign : (i : ℕ) → i < P .limits → pos 0 ≤ℤ startingMultiplier P i) where
+  infeasible-step : (t : ℕ) → T (infeasible P (stepAt P t)) → NoneFeasible P
   unfolding infeasible stepAt stepFrom
-  sound-step t above = none-feasible (facts P t) (ltZ-yes above)
+  infeasible-step t above = none-feasible (facts P start-sign t) (ltZ-yes above)
 
-  sound-steps : (k : ℕ) → Sound P (stepRefusal P k)
+  steps-margins : (k : ℕ) → RefusalMargins P (stepRefusal P k)
   unfolding stepRefusal
-  sound-steps k = sound-first k _ (λ t. sound-otherwise _ _ (sound-refuse 9 t _ (λ above _. sound-step t above)) (sound-other 10 t _ tt))
+  steps-margins k =
+      first-margins P k _ (λ t.
+      otherwise-margins P _ _ (refuse-margins P 9 t _ (λ above _. infeasible-step t above)) (λ _. other-margins P 10 t _ tt))
 
--- ---- refusals 1 to 8, and all of them
-sound-layout : (s : List ℕ) → Sound (problem (sheetOf s)) (layoutRefusal s)
-unfolding layoutRefusal
-sound-layout s = search (sound-otherwise, sound-first, sound-other) depth 20
+-- ---- the sheet: refusals 1 to 7, and then 8 and the steps
+module _ (s : List ℕ) where
+  layout-margins : RefusalMargins (problem (sheetOf s)) (layoutRefusal s)
+  unfolding layoutRefusal
+  layout-margins = search (otherwise-margins, first-margins, other-margins) depth 20
 
-pub sound-refusal : (s : List ℕ) (room : ℕ) → Sound (problem (sheetOf s)) (refusal s room)
-unfolding refusal refusalBeforeSteps
-sound-refusal s room = search (sound-otherwise, sound-layout, sound-other, sound-steps)
+  pub refusal-margins : (room : ℕ) → RefusalMargins (problem (sheetOf s)) (refusal s room)
+  unfolding refusal refusalBeforeSteps
+  refusal-margins room =
+      otherwise-margins _ _ _ (otherwise-margins _ _ _ layout-margins (λ _. other-margins _ 8 _ _ tt))
+      (λ h. steps-margins _ (accepted s (otherwise-none _ _ h .0) .start-sign) (sheetOf s .steps))

@@ -1,4 +1,4 @@
--- Source document 004, Lemma 2(a), the basic iterate relation: where a step's multipliers come to lie, seen from any ν ≥ 0.
+-- Source document 004, Lemma 2(a), the basic iterate relation: how far from any ν ≥ 0 the multipliers can be after a step.
 use mathlib.Core.Path.{_≡_}
 use mathlib.Core.List.{[], _∷_}
 use Prim.Native.Nat.{ℕ, _*_, _<_}
@@ -38,7 +38,7 @@ one-limit p M g M′ ν up size sign =
     p M g M′ ν (gap-mul up sign) size
 
 module _ {P : Problem} {M x M′ : ℕ → ℤ} (facts : FourFacts P M x M′) where
-  -- Lemma 2(a), with the Lagrangian L at ν and the step's own amounts where the source has q(ν), which is no more:
+  -- Lemma 2(a), where for q(ν) stands L, the Lagrangian at ν and the step's own amounts, which is at least q(ν):
   -- ‖M′ − ν‖² − ‖M − ν‖² ≤ 2·p·(V − L) + p²·‖residuals‖²
   pub iterate-relation : (ν : ℕ → ℤ) → ((i : ℕ) → i < P .limits → pos 0 ≤ℤ ν i)
       → (norm² P (λ i. M′ i -ℤ ν i) -ℤ norm² P (λ i. M i -ℤ ν i)) ≤ℤ growth P x (dualValue P M x) (dualValue P ν x)
@@ -54,7 +54,7 @@ module _ {P : Problem} {M x M′ : ℕ → ℤ} (facts : FourFacts P M x M′) w
   pub from-zero : (norm² P M′ -ℤ norm² P M) ≤ℤ growth P x (dualValue P M x) (pos (P .scale) *ℤ costOf P x)
   from-zero = simp (at-zero, +ℤ-idr) at (iterate-relation (λ _. pos 0) (λ _ _. ≤ℤ-refl (pos 0)))
 
-  -- Lemma 2(a) as it stands in the source, for amounts within the bounds; q(ν) is the dual value of a step that enters with ν:
+  -- Lemma 2(a) with q(ν), the dual value of a step that enters with ν, for amounts within the bounds. The source has ‖M − ν‖² on the other side:
   -- ‖M′ − ν‖² − ‖M − ν‖² ≤ 2·p·(q(M) − q(ν)) + p²·‖residuals‖²
   pub lemma-2a : {ν xν ν′ : ℕ → ℤ} → FourFacts P ν xν ν′ → WithinBounds P (pos 1) x
       → (norm² P (λ i. M′ i -ℤ ν i) -ℤ norm² P (λ i. M i -ℤ ν i)) ≤ℤ growth P x (dualValue P M x) (dualValue P ν xν)

@@ -8,16 +8,18 @@
 --   IterateRelation  Lemma 2(a)
 --   Violation        Proposition 1(a)
 --   PrimalCost       Proposition 1(b)
---   Tests            what the tests of `rules` say where nothing is refused
---   RunSteps         the run of `rules` takes steps that have the four facts
+-- From here on it speaks of the definitions:
+--   Places           what holds at every place below n
+--   RunSteps         each step of the run has the four facts
 --   Plans            every plan has its margins
+--   NotRefused       what follows where nothing is refused
+--   Accepted         the ranges of a sheet that is read
 --   Infeasible       refusal 9 is given only where there is no feasible point
 --   Theorem          demand 3
 --   Sharp            the claims are not empty: marked sheets where they are equations, and near claims refuted
 -- The magnitudes, which the code needs:
---   Accepted         the ranges of a sheet that is read
 --   Magnitudes       the figures of a step
---   RunMagnitudes    the figures of a run: `magnitudes`
+--   RunMagnitudes    the figures of a run: `magnitudes`, by a sheet's bytes, and `run-magnitudes`, by its figures
 -- Of a step, M are the multipliers that enter it (times D), M′ those that leave it, x its amounts, and V its dual value. A point y/d has the whole
 -- amounts y over the divisor d.
 pub mod Minimal
@@ -28,12 +30,13 @@ pub mod WeakDuality
 pub mod IterateRelation
 pub mod Violation
 pub mod PrimalCost
-pub mod Tests
+pub mod Places
 pub mod RunSteps
 pub mod Plans
+pub mod NotRefused
+pub mod Accepted
 pub mod Infeasible
 pub mod Theorem
 pub mod Sharp
-pub mod Accepted
 pub mod Magnitudes
 pub mod RunMagnitudes

@@ -2,6 +2,7 @@
 use mathlib.Core.Path.{_≡_, ap, _∙_}
 use Prim.Native.Nat.{ℕ, _<_}
 use lib.IntN.{pos, _*ℤ_, +ℤ-idl, +ℤ-idr}
+use lib.Signed.{_≤ℤ_}
 use Rattle.integer.specs.Sum.{sumTo, sumTo-cong, sumTo-none}
 use Rattle.integer.specs.Vector.{at, at-tabulate}
 use Rattle.rules.specs.Problem.{Problem, costOf}
@@ -31,12 +32,12 @@ module _ (P : Problem) where
   squared-residuals : (k : ℕ) → sumTo k (λ t. norm² P (residuals P t)) ≡ sumTo k (λ t. norm² P (residual P (amounts P t)))
   squared-residuals k = sumTo-cong k _ _ (λ t _. sumTo-cong (P .limits) _ _ (λ i l. ap square (residuals-are P t i l)))
 
-  pub plan-margins : (k : ℕ) → PlanMargins P k (gapAfter P k)
+  pub plan-margins : ((i : ℕ) → i < P .limits → pos 0 ≤ℤ startingMultiplier P i) → (k : ℕ) → PlanMargins P k (gapAfter P k)
   unfolding gapAfter planAfter
-  plan-margins k = record {
-    excess = λ d y f. excess k d _ _ _ (low-below-costs P k d y f);
-    residualTotals = λ i l. rw (totals-are P k i l) (simp (starts-at-zero i l, +ℤ-idr) at (proposition-1a (steps P k) i l));
+  plan-margins start-sign k = record {
+    excess = λ d y f. excess k d _ _ _ (low-below-costs P start-sign k d y f);
+    residualTotals = λ i l. rw (totals-are P k i l) (simp (starts-at-zero i l, +ℤ-idr) at (proposition-1a (steps P start-sign k) i l));
     squares =
         rw (cost-of-sums k, squared-residuals k)
-        (simp (no-starting-squares, +ℤ-idl) at (proposition-1b (steps P k) (stateAfter P k .lowerBound) (low-above-values P k)));
+        (simp (no-starting-squares, +ℤ-idl) at (proposition-1b (steps P start-sign k) (stateAfter P k .lowerBound) (low-above-values P k)));
   }

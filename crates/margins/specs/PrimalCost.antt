@@ -1,4 +1,5 @@
--- Source document 004, Proposition 1(b): what the average of k steps costs at most. Lemma 2(a) from 0, summed over the steps.
+-- Source document 004, Proposition 1(b): what the average of k steps costs at most. It is Lemma 2(a) at ν = 0, summed over the steps.
+-- The source drops ‖M_k‖² at the end; here it is kept.
 use mathlib.Core.Path.{_≡_}
 use mathlib.Core.List.{[], _∷_}
 use Prim.Native.Nat.{ℕ, suc, _<_}

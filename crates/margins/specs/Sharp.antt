@@ -14,10 +14,11 @@ use Rattle.rules.specs.Sheet.{sheetOf, problem}
 use Rattle.rules.specs.Ranges.{neg}
 use Rattle.rules.specs.Step.{anyBelow, reducedCost, dualValue}
 use Rattle.rules.specs.Run.{planAfter, stepAt}
+use Rattle.rules.specs.Answers.{plan, answer}
 use Rattle.rules.specs.Margins.{square, PlanMargins, Margins}
 use Rattle.rules.specs.Rows.{_∶_, written, Holds}
 use Rattle.rules.specs.Marked.{C1, C2, C3}
-use Rattle.margins.specs.Tests.{any-none}
+use Rattle.margins.specs.Places.{any-none}
 use Rattle.margins.specs.Minimal.{most, AllMinimal, WithinBounds}
 use Rattle.margins.specs.Lagrangian.{lagrangian}
 use Rattle.margins.specs.IterateRelation.{norm²}
@@ -113,11 +114,15 @@ infeasible-C3 = margins (C3 .sheet) (C3 .room) refl
 abbrev C3-with-5 : List ℕ
 C3-with-5 = written 1 1 1 1 2 (0 ∶ pos 1 ∷ 128 ∶ pos 5 ∷ 192 ∶ neg 1 ∷ 193 ∶ neg 5 ∷ [])
 
+pub planned-with-5 : answer C3-with-5 (C3 .room) ≡ plan (pos 5) (neg 5)
+unfolding Holds
+planned-with-5 = refl
+
 pub feasible-with-5 : Feasible (problemOf C3-with-5) (pos 1) (λ _. pos 5)
 unfolding Holds
 feasible-with-5 = feasible (problemOf C3-with-5) (pos 1) (λ _. pos 5) tt tt tt tt
 
--- ---- near claims that are false: F1 to F3 and the two sums, as must-fail edits have them
+-- ---- near claims that are false, each made by a must-fail edit: F1 to F3 at plain numbers, and the two sums at C2
 -- F1 by the other sign of the reduced cost, at one material of cost 1, from 0 to 1, with no limits
 abbrev one-material : Problem
 one-material = record {

@@ -1,21 +1,30 @@
 -- Demand 3, for every sheet's bytes and every length of the record buffer: the answer has its margins.
+use mathlib.Core.Path.{_≡_, refl}
 use mathlib.Core.List.{List}
 use mathlib.Core.Option.{Option, none, some}
 use Prim.Native.Nat.{ℕ}
 use Rattle.rules.specs.Sheet.{sheetOf, problem}
 use Rattle.rules.specs.Run.{planAfter}
-use Rattle.rules.specs.Refusals.{Numbered}
+use Rattle.rules.specs.Refusals.{Numbered, layoutRefusal, refusalBeforeSteps}
 use Rattle.rules.specs.Answers.{refusal, planOf, outcomeOf, answer}
 use Rattle.rules.specs.Margins.{Margins}
+use Rattle.margins.specs.NotRefused.{otherwise-none}
+use Rattle.margins.specs.Accepted.{accepted}
 use Rattle.margins.specs.Plans.{plan-margins}
-use Rattle.margins.specs.Infeasible.{Sound, sound-refusal}
+use Rattle.margins.specs.Infeasible.{RefusalMargins, refusal-margins}
 
--- where a refusal is given, what is claimed of it; else the margins of the plan
-by-refusal : (sheet : List ℕ) (r : Option Numbered) → Sound (problem (sheetOf sheet)) r → Margins sheet (outcomeOf (planOf sheet) r)
-unfolding Margins outcomeOf planOf planAfter
-by-refusal sheet (some r) sound = sound
-by-refusal sheet none _ = plan-margins (problem (sheetOf sheet)) (sheetOf sheet .steps)
+module _ (sheet : List ℕ) (room : ℕ) where
+  -- a sheet that is not refused follows the layout
+  read : refusal sheet room ≡ none → layoutRefusal sheet ≡ none
+  unfolding refusal refusalBeforeSteps
+  read h = otherwise-none _ _ (otherwise-none _ _ h .0) .0
 
-pub margins : (sheet : List ℕ) (room : ℕ) → Margins sheet (answer sheet room)
-unfolding answer
-margins sheet room = by-refusal sheet (refusal sheet room) (sound-refusal sheet room)
+  -- where there is a refusal, what is claimed of it; else the margins of the plan
+  by-refusal : (r : Option Numbered) → refusal sheet room ≡ r → RefusalMargins (problem (sheetOf sheet)) r → Margins sheet (outcomeOf (planOf sheet) r)
+  unfolding Margins outcomeOf planOf planAfter
+  by-refusal (some r) _ claim = claim
+  by-refusal none e _ = plan-margins (problem (sheetOf sheet)) (accepted sheet (read e) .start-sign) (sheetOf sheet .steps)
+
+  pub margins : Margins sheet (answer sheet room)
+  unfolding answer
+  margins = by-refusal (refusal sheet room) refl (refusal-margins sheet room)

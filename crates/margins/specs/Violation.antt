@@ -1,4 +1,5 @@
--- Source document 004, Proposition 1(a): by how much the average of k steps can overstep a limit. F2, summed over the steps.
+-- Source document 004, Proposition 1(a): by how much the average of k steps can overstep a limit. It is F2, summed over the steps.
+-- The source goes on to norms over all limits; here, as in its proof, each limit stands by itself.
 use mathlib.Core.List.{[], _∷_}
 use Prim.Native.Nat.{ℕ, suc, _<_}
 use native.Mathlib.Omega.{arith}

@@ -1,0 +1,24 @@
+-- What holds at every place below n.
+use mathlib.Core.Bool.{Bool, not}
+use mathlib.Core.Logic.{inl, inr}
+use Prim.Native.Nat.{ℕ, zero, suc, _<_}
+use native.Mathlib.Nat.{eq-or-lt-of-le, le-of-suc-le-suc, not-suc-le-zero}
+use lib.Dec.{T}
+use mir.Facts.{or-no}
+use Rattle.rules.specs.Step.{anyBelow}
+
+-- below 0 there is no place
+pub below-zero : (Q : ℕ → Type 0) → (i : ℕ) → i < 0 → Q i
+below-zero Q i l = absurd (not-suc-le-zero l)
+
+-- what holds at every place below n, and at n, holds at every place below n + 1
+pub below-suc : (n : ℕ) (Q : ℕ → Type 0) → ((i : ℕ) → i < n → Q i) → Q n → (i : ℕ) → i < suc n → Q i
+below-suc n Q before here i l = elim (eq-or-lt-of-le (le-of-suc-le-suc l)) [ inl e ↦ rw e here | inr k ↦ before i k ]
+
+-- where no place below n meets a test, each fails it
+pub any-none : (n : ℕ) (test : ℕ → Bool) → T (not (anyBelow n test)) → (i : ℕ) → i < n → T (not (test i))
+unfolding anyBelow
+any-none zero test h = below-zero (λ i. T (not (test i)))
+any-none (suc n) test h =
+    let (before, here) = or-no (anyBelow n test) (test n) h in
+    below-suc n (λ i. T (not (test i))) (any-none n test before) here
