@@ -1,4 +1,4 @@
--- Demand 3, for every sheet's bytes and every length of the record buffer: the answer has its margins.
+-- The theorem: for every sheet's bytes and every length of the record buffer, the answer has its margins.
 use mathlib.Core.Path.{_≡_, refl}
 use mathlib.Core.List.{List}
 use mathlib.Core.Option.{Option, none, some}
@@ -20,11 +20,13 @@ module _ (sheet : List ℕ) (room : ℕ) where
   read h = otherwise-none _ _ (otherwise-none _ _ h .0) .0
 
   -- where there is a refusal, what is claimed of it; else the margins of the plan
-  by-refusal : (r : Option Numbered) → refusal sheet room ≡ r → RefusalMargins (problem (sheetOf sheet)) r → Margins sheet (outcomeOf (planOf sheet) r)
+  by-refusal : (r : Option Numbered) → refusal sheet room ≡ r → RefusalMargins (problem (sheetOf sheet)) r
+      → Margins sheet (outcomeOf (planOf sheet) r)
   unfolding Margins outcomeOf planOf planAfter
   by-refusal (some r) _ claim = claim
   by-refusal none e _ = plan-margins (problem (sheetOf sheet)) (accepted sheet (read e) .start-sign) (sheetOf sheet .steps)
 
-  pub margins : Margins sheet (answer sheet room)
-  unfolding answer
-  margins = by-refusal (refusal sheet room) refl (refusal-margins sheet room)
+-- Demand 3.
+pub margins : (sheet : List ℕ) (room : ℕ) → Margins sheet (answer sheet room)
+unfolding answer
+margins sheet room = by-refusal sheet room (refusal sheet room) refl (refusal-margins sheet room)

@@ -30,7 +30,8 @@ module _ {P : Problem} {M x M′ : ℕ → ℤ} (facts : FourFacts P M x M′) w
 
   -- weak duality, d·V ≤ D·c·y: by F4, the term of a limit that is kept is not above 0
   pub weak-duality : (d : ℤ) (y : ℕ → ℤ) → Feasible P d y → (d *ℤ dualValue P M x) ≤ℤ (pos (P .scale) *ℤ costOf P y)
-  weak-duality d y f = without-terms d y (feasible-within f) (λ i l. kept (M i) (loadOf P y i) (d *ℤ P .bound i) (gap-mul (facts .sign i l) (f .within i l)))
+  weak-duality d y f =
+      without-terms d y (feasible-within f) (λ i l. kept (M i) (loadOf P y i) (d *ℤ P .bound i) (gap-mul (facts .sign i l) (f .within i l)))
     where
       kept : (M r e : ℤ) → pos 0 ≤ℤ ((M -ℤ pos 0) *ℤ (e -ℤ r)) → (M *ℤ (r -ℤ e)) ≤ℤ pos 0
       kept = omegaℤ 3 (λ M r e. (lit 0 ≼ (M ⊖ lit 0) ⊗ (e ⊖ r)) ∷ [] ⊢ M ⊗ (r ⊖ e) ≼ lit 0) (omega arith)
