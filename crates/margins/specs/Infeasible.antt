@@ -3,20 +3,19 @@ use mathlib.Core.Path.{_≡_, refl}
 use mathlib.Core.Bool.{Bool, true, false, not}
 use mathlib.Core.List.{List}
 use mathlib.Core.Option.{Option, none, some}
-use Prim.Native.Nat.{ℕ, zero, suc, _<_}
+use Prim.Native.Nat.{ℕ, zero, suc}
 use lib.Dec.{T, eqb}
-use lib.IntN.{pos}
-use lib.Signed.{_≤ℤ_, ltZ-yes}
+use lib.Signed.{ltZ-yes}
 use Rattle.rules.specs.Problem.{Problem, NoneFeasible}
 use Rattle.rules.specs.Sheet.{sheetOf, problem}
 use Rattle.rules.specs.Step.{infeasible, stepFrom}
-use Rattle.rules.specs.Run.{startingMultiplier, stepAt}
+use Rattle.rules.specs.Run.{stepAt}
 use Rattle.rules.specs.Refusals.{Numbered, refuse, _otherwise_, firstBelow, layoutRefusal, refusalBeforeSteps}
 use Rattle.rules.specs.Answers.{stepRefusal, refusal}
 use Rattle.margins.specs.NotRefused.{otherwise-none}
 use Rattle.margins.specs.Accepted.{accepted}
 use Rattle.margins.specs.WeakDuality.{none-feasible}
-use Rattle.margins.specs.RunSteps.{facts}
+use Rattle.margins.specs.RunSteps.{StartSign, facts}
 
 -- what demand 3 claims of a refusal, if there is one
 abbrev pub RefusalMargins : Problem → Option Numbered → Type 0
@@ -45,7 +44,7 @@ module _ (P : Problem) where
   other-margins number place test other = refuse-margins number place test (λ _ e. absurd (rw e at other))
 
 -- ---- the steps, by rule 3
-module _ (P : Problem) (start-sign : (i : ℕ) → i < P .limits → pos 0 ≤ℤ startingMultiplier P i) where
+module _ (P : Problem) (start-sign : StartSign P) where
   infeasible-step : (t : ℕ) → T (infeasible P (stepAt P t)) → NoneFeasible P
   unfolding infeasible stepAt stepFrom
   infeasible-step t above = none-feasible (facts P start-sign t) (ltZ-yes above)

@@ -61,6 +61,10 @@ pub record StepMagnitudes (P : Problem) (M x : ℕ → ℤ) : Type 0 where
   pub scaled-residual : (i : ℕ) → i < P .limits → Fits64 (pos (P .numerator) *ℤ residual P x i) 65536000000
   pub uncut : (i : ℕ) → i < P .limits → Fits64 (M i +ℤ pos (P .numerator) *ℤ residual P x i) 66609741824
 
+-- a sum of the first n of some terms, of which there are at most N, each at most B
+over : {N B terms : ℕ} → terms ≤ N → (f : ℕ → ℤ) → ((j : ℕ) → j < terms → Bnd (f j) B) → (n : ℕ) → n ≤ terms → Bnd (sumTo n f) (N * B)
+over few f h n l = sumTo-bnd n f (le-trans l few) (λ j k. h j (lt-of-lt-of-le k l))
+
 module _ {P : Problem} {k : ℕ} (a : Accepted P k) where
   scale-bnd : Bnd (pos (P .scale)) 1024
   scale-bnd = bnd-of (pos (P .scale)) (a .scale-small)
@@ -74,20 +78,13 @@ module _ {P : Problem} {k : ℕ} (a : Accepted P k) where
       let (above, below) = between (minimal j l) (a .ordered j l) in
       bnd-between (≤ℤ-trans (leZ-yes tt) (≤ℤ-trans (a .least-sign j l) above)) (≤ℤ-trans below (a .most-in j l))
 
-  -- ---- sums over materials and over limits
-  over-materials : {B : ℕ} (f : ℕ → ℤ) → ((j : ℕ) → j < P .materials → Bnd (f j) B) → (n : ℕ) → n ≤ P .materials → Bnd (sumTo n f) (32 * B)
-  over-materials f h n l = sumTo-bnd {N = 32} n f (le-trans l (a .materials-few)) (λ j k. h j (lt-of-lt-of-le k l))
-
-  over-limits : {B : ℕ} (f : ℕ → ℤ) → ((i : ℕ) → i < P .limits → Bnd (f i) B) → (m : ℕ) → m ≤ P .limits → Bnd (sumTo m f) (16 * B)
-  over-limits f h m l = sumTo-bnd {N = 16} m f (le-trans l (a .limits-few)) (λ i k. h i (lt-of-lt-of-le k l))
-
   -- ---- costs, of amounts up to those that 4,096 steps add up to
   pub cost-magnitudes : {B : ℕ} (x : ℕ → ℤ) → B ≤ 4096000 → ((j : ℕ) → j < P .materials → Bnd (x j) B) → CostMagnitudes P x B
   unfolding costOf
   cost-magnitudes {B} x few x-in = record {
     term = λ j l. fit (lt→ltb (10000 * B) (2 ^ 63) (omega arith)) (terms j l);
-    sum = λ n l. fit (lt→ltb (32 * (10000 * B)) (2 ^ 63) (omega arith)) (over-materials _ terms n l);
-    scaled = fit (lt→ltb (1024 * (32 * (10000 * B))) (2 ^ 63) (omega arith)) (scale-bnd b* over-materials _ terms (P .materials) (le-refl _));
+    sum = λ n l. fit (lt→ltb (32 * (10000 * B)) (2 ^ 63) (omega arith)) (over (a .materials-few) _ terms n l);
+    scaled = fit (lt→ltb (1024 * (32 * (10000 * B))) (2 ^ 63) (omega arith)) (scale-bnd b* over (a .materials-few) _ terms (P .materials) (le-refl _));
   }
     where
       terms : (j : ℕ) → j < P .materials → Bnd (P .cost j *ℤ x j) (10000 * B)
@@ -96,15 +93,15 @@ module _ {P : Problem} {k : ℕ} (a : Accepted P k) where
   -- ---- residuals, of amounts up to 1,000
   pub residual-bnd : (x : ℕ → ℤ) → ((j : ℕ) → j < P .materials → Bnd (x j) 1000) → (i : ℕ) → i < P .limits → Bnd (residual P x i) 64000000
   unfolding residual loadOf
-  residual-bnd x x-in i l = over-materials _ (λ j k. a .coefficient-in i l j k b* x-in j k) (P .materials) (le-refl _) b- a .bound-in i l
+  residual-bnd x x-in i l = over (a .materials-few) _ (λ j k. a .coefficient-in i l j k b* x-in j k) (P .materials) (le-refl _) b- a .bound-in i l
 
   -- ---- the whole step
   module _ (M x : ℕ → ℤ) (M-in : (i : ℕ) → i < P .limits → Bnd (M i) 1073741824) (x-in : (j : ℕ) → j < P .materials → Bnd (x j) 1000) where
     reduced-bnd : (m j : ℕ) → m ≤ P .limits → j < P .materials → Bnd (sumTo m (λ i. M i *ℤ P .coefficient i j)) 17179869184000
-    reduced-bnd m j h l = over-limits _ (λ i k. M-in i k b* a .coefficient-in i k j l) m h
+    reduced-bnd m j h l = over (a .limits-few) _ (λ i k. M-in i k b* a .coefficient-in i k j l) m h
 
     dual-bnd : (m : ℕ) → m ≤ P .limits → Bnd (sumTo m (λ i. M i *ℤ residual P x i)) 1099511627776000000
-    dual-bnd m h = over-limits _ (λ i k. M-in i k b* residual-bnd x x-in i k) m h
+    dual-bnd m h = over (a .limits-few) _ (λ i k. M-in i k b* residual-bnd x x-in i k) m h
 
     step-cost-magnitudes : CostMagnitudes P x 1000
     step-cost-magnitudes = cost-magnitudes x (lit≤ tt) x-in
@@ -119,7 +116,7 @@ module _ {P : Problem} {k : ℕ} (a : Accepted P k) where
       reduced-cost = λ j l. fit tt (scale-bnd b* a .cost-in j l b+ reduced-bnd (P .limits) j (le-refl _) l);
       amount = λ j l. fit tt (x-in j l);
       load-term = λ i j h l. fit tt (a .coefficient-in i h j l b* x-in j l);
-      load-sum = λ i n h l. fit tt (over-materials _ (λ j k. a .coefficient-in i h j k b* x-in j k) n l);
+      load-sum = λ i n h l. fit tt (over (a .materials-few) _ (λ j k. a .coefficient-in i h j k b* x-in j k) n l);
       one-residual = λ i l. fit tt (residual-bnd x x-in i l);
       step-cost = step-cost-magnitudes;
       dual-term = λ i l. fit tt (M-in i l b* residual-bnd x x-in i l);

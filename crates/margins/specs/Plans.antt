@@ -2,7 +2,6 @@
 use mathlib.Core.Path.{_≡_, ap, _∙_}
 use Prim.Native.Nat.{ℕ, _<_}
 use lib.IntN.{pos, _*ℤ_, +ℤ-idl, +ℤ-idr}
-use lib.Signed.{_≤ℤ_}
 use Rattle.integer.specs.Sum.{sumTo, sumTo-cong, sumTo-none}
 use Rattle.integer.specs.Vector.{at, at-tabulate}
 use Rattle.rules.specs.Problem.{Problem, costOf}
@@ -13,7 +12,7 @@ use Rattle.margins.specs.WeakDuality.{excess}
 use Rattle.margins.specs.IterateRelation.{norm²}
 use Rattle.margins.specs.Violation.{proposition-1a}
 use Rattle.margins.specs.PrimalCost.{proposition-1b}
-use Rattle.margins.specs.RunSteps.{entering, amounts, residuals, residuals-are, steps, sums-are, totals-are, low-above-values, low-below-costs}
+use Rattle.margins.specs.RunSteps.{entering, amounts, residuals, residuals-are, StartSign, steps, sums-are, totals-are, low-above-values, low-below-costs}
 
 module _ (P : Problem) where
   -- ---- the run begins at 0
@@ -32,7 +31,7 @@ module _ (P : Problem) where
   squared-residuals : (k : ℕ) → sumTo k (λ t. norm² P (residuals P t)) ≡ sumTo k (λ t. norm² P (residual P (amounts P t)))
   squared-residuals k = sumTo-cong k _ _ (λ t _. sumTo-cong (P .limits) _ _ (λ i l. ap square (residuals-are P t i l)))
 
-  pub plan-margins : ((i : ℕ) → i < P .limits → pos 0 ≤ℤ startingMultiplier P i) → (k : ℕ) → PlanMargins P k (gapAfter P k)
+  pub plan-margins : StartSign P → (k : ℕ) → PlanMargins P k (gapAfter P k)
   unfolding gapAfter planAfter
   plan-margins start-sign k = record {
     excess = λ d y f. excess k d _ _ _ (low-below-costs P start-sign k d y f);

@@ -67,8 +67,12 @@ module _ (P : Problem) where
       (λ t l. ≤ℤ-trans (low-above-values k t l) (max-left (stateAfter P k .lowerBound) _))
       (max-right (stateAfter P k .lowerBound) _)
 
--- ---- what wants that no starting multiplier is negative
-module _ (P : Problem) (start-sign : (i : ℕ) → i < P .limits → pos 0 ≤ℤ startingMultiplier P i) where
+-- no starting multiplier is negative
+abbrev pub StartSign : Problem → Type 0
+StartSign P = (i : ℕ) → i < P .limits → pos 0 ≤ℤ startingMultiplier P i
+
+-- ---- what wants that
+module _ (P : Problem) (start-sign : StartSign P) where
   pub entering-sign : (t i : ℕ) → i < P .limits → pos 0 ≤ℤ entering P t i
   unfolding stateAfter start moved
   entering-sign zero i l = rw (at-tabulate (P .limits) (startingMultiplier P) i l) (start-sign i l)
