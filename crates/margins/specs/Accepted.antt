@@ -42,6 +42,7 @@ pub record Accepted (P : Problem) (k : ℕ) : Type 0 where
   pub most-in : (j : ℕ) → j < P .materials → P .most j ≤ℤ pos 1000
   pub coefficient-in : (i : ℕ) → i < P .limits → (j : ℕ) → j < P .materials → Bnd (P .coefficient i j) 1000
   pub bound-in : (i : ℕ) → i < P .limits → Bnd (P .bound i) 32000000
+  -- the start: 0 ≤ M_i ≤ 2³⁰
   pub start-sign : (i : ℕ) → i < P .limits → pos 0 ≤ℤ startingMultiplier P i
   pub start-top : (i : ℕ) → i < P .limits → startingMultiplier P i ≤ℤ pos 1073741824
 

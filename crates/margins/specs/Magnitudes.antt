@@ -97,8 +97,13 @@ module _ {P : Problem} {k : ℕ} (a : Accepted P k) where
 
   -- ---- the whole step
   module _ (M x : ℕ → ℤ) (M-in : (i : ℕ) → i < P .limits → Bnd (M i) 1073741824) (x-in : (j : ℕ) → j < P .materials → Bnd (x j) 1000) where
+    -- a sum by itself, and added to what the figure begins with
     reduced-bnd : (m j : ℕ) → m ≤ P .limits → j < P .materials → Bnd (sumTo m (λ i. M i *ℤ P .coefficient i j)) 17179869184000
     reduced-bnd m j h l = over (a .limits-few) _ (λ i k. M-in i k b* a .coefficient-in i k j l) m h
+
+    reduced-part-bnd : (m j : ℕ) → m ≤ P .limits → j < P .materials
+        → Bnd (pos (P .scale) *ℤ P .cost j +ℤ sumTo m (λ i. M i *ℤ P .coefficient i j)) 17179879424000
+    reduced-part-bnd m j h l = scale-bnd b* a .cost-in j l b+ reduced-bnd m j h l
 
     dual-bnd : (m : ℕ) → m ≤ P .limits → Bnd (sumTo m (λ i. M i *ℤ residual P x i)) 1099511627776000000
     dual-bnd m h = over (a .limits-few) _ (λ i k. M-in i k b* residual-bnd x x-in i k) m h
@@ -106,14 +111,17 @@ module _ {P : Problem} {k : ℕ} (a : Accepted P k) where
     step-cost-magnitudes : CostMagnitudes P x 1000
     step-cost-magnitudes = cost-magnitudes x (lit≤ tt) x-in
 
+    dual-part-bnd : (m : ℕ) → m ≤ P .limits → Bnd (pos (P .scale) *ℤ costOf P x +ℤ sumTo m (λ i. M i *ℤ residual P x i)) 1099511955456000000
+    dual-part-bnd m h = step-cost-magnitudes .scaled .bound b+ dual-bnd m h
+
     pub step-magnitudes : StepMagnitudes P M x
     unfolding reducedCost dualValue
     step-magnitudes = record {
       scaled-cost = λ j l. fit tt (scale-bnd b* a .cost-in j l);
       reduced-term = λ i j h l. fit tt (M-in i h b* a .coefficient-in i h j l);
       reduced-sum = λ m j h l. fit tt (reduced-bnd m j h l);
-      reduced-part = λ m j h l. fit tt (scale-bnd b* a .cost-in j l b+ reduced-bnd m j h l);
-      reduced-cost = λ j l. fit tt (scale-bnd b* a .cost-in j l b+ reduced-bnd (P .limits) j (le-refl _) l);
+      reduced-part = λ m j h l. fit tt (reduced-part-bnd m j h l);
+      reduced-cost = λ j l. fit tt (reduced-part-bnd (P .limits) j (le-refl _) l);
       amount = λ j l. fit tt (x-in j l);
       load-term = λ i j h l. fit tt (a .coefficient-in i h j l b* x-in j l);
       load-sum = λ i n h l. fit tt (over (a .materials-few) _ (λ j k. a .coefficient-in i h j k b* x-in j k) n l);
@@ -121,8 +129,8 @@ module _ {P : Problem} {k : ℕ} (a : Accepted P k) where
       step-cost = step-cost-magnitudes;
       dual-term = λ i l. fit tt (M-in i l b* residual-bnd x x-in i l);
       dual-sum = λ m l. fit tt (dual-bnd m l);
-      dual-part = λ m l. fit tt (step-cost-magnitudes .scaled .bound b+ dual-bnd m l);
-      dual-value = fit tt (step-cost-magnitudes .scaled .bound b+ dual-bnd (P .limits) (le-refl _));
+      dual-part = λ m l. fit tt (dual-part-bnd m l);
+      dual-value = fit tt (dual-part-bnd (P .limits) (le-refl _));
       greatest-cost = cost-magnitudes (greatestEnd P) (lit≤ tt) (amounts-bnd (greatest-minimal P));
       scaled-residual = λ i l. fit tt (numerator-bnd b* residual-bnd x x-in i l);
       uncut = λ i l. fit tt (M-in i l b+ numerator-bnd b* residual-bnd x x-in i l);

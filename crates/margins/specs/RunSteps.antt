@@ -71,7 +71,7 @@ module _ (P : Problem) where
 abbrev pub StartSign : Problem → Type 0
 StartSign P = (i : ℕ) → i < P .limits → pos 0 ≤ℤ startingMultiplier P i
 
--- ---- what wants that
+-- ---- what rests on that
 module _ (P : Problem) (start-sign : StartSign P) where
   pub entering-sign : (t i : ℕ) → i < P .limits → pos 0 ≤ℤ entering P t i
   unfolding stateAfter start moved
