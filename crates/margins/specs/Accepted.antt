@@ -48,8 +48,8 @@ pub record Accepted (P : Problem) (k : ℕ) : Type 0 where
 
 -- ---- the tests that the ranges follow from, each over the whole sheet
 record Passed (S : Sheet) : Type 0 where
-  dimensions : T (dimensionsInRange S)
-  parameters : T (parametersInRange S)
+  dimensions : T (dimensionsInRange (S .materials) (S .limits) (S .entries))
+  parameters : T (parametersInRange (S .numerator) (S .scale) (S .steps))
   values : (i : ℕ) → i < S .entries → T (not (badValue S i))
   bounds : (j : ℕ) → j < S .materials → T (not (crossed S j))
 

@@ -9,7 +9,6 @@ use lib.Dec.{leb, eqb}
 use Rattle.rules.specs.declared.Kind.{Kind}
 use Rattle.rules.specs.declared.Kind.the-variants.{Cost, Least, Most, Coefficient, Bound}
 use Rattle.rules.specs.declared.Range.{Range}
-use Rattle.rules.specs.Sheet.{Sheet}
 
 -- −n
 abbrev pub neg : ℕ → ℤ
@@ -61,15 +60,14 @@ inRange r v = leZ (r .least) v && leZ v (r .greatest)
 unfoldable pub between : ℕ → ℕ → ℕ → Bool
 between least greatest x = leb least x && leb x greatest
 
-module _ (S : Sheet) where
-  -- the most entries that n and m allow
-  abbrev pub mostEntries : ℕ
-  mostEntries = S .materials * (S .limits + 3) + S .limits
+-- the most entries that n and m allow: n(m+3)+m
+abbrev pub mostEntries : ℕ → ℕ → ℕ
+mostEntries n m = n * (m + 3) + m
 
-  -- n is 1 to 32, m is 0 to 16, e is at most n(m+3)+m
-  unfoldable pub dimensionsInRange : Bool
-  dimensionsInRange = between 1 32 (S .materials) && between 0 16 (S .limits) && between 0 mostEntries (S .entries)
+-- n is 1 to 32, m is 0 to 16, e is at most n(m+3)+m
+unfoldable pub dimensionsInRange : ℕ → ℕ → ℕ → Bool
+dimensionsInRange n m e = between 1 32 n && between 0 16 m && between 0 (mostEntries n m) e
 
-  -- p and D are 1 to 1,024; k is 1 to 4,096
-  unfoldable pub parametersInRange : Bool
-  parametersInRange = between 1 1024 (S .numerator) && between 1 1024 (S .scale) && between 1 4096 (S .steps)
+-- p and D are 1 to 1,024; k is 1 to 4,096
+unfoldable pub parametersInRange : ℕ → ℕ → ℕ → Bool
+parametersInRange p D k = between 1 1024 p && between 1 1024 D && between 1 4096 k

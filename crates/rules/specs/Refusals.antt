@@ -52,6 +52,10 @@ unfoldable pub firstBelow : ℕ → (ℕ → Option Numbered) → Option Numbere
 firstBelow zero test = none
 firstBelow (suc n) test = firstBelow n test otherwise test n
 
+-- does no figure stand at a row and a column, with n materials and m limits? Row above m+2, column above n, or column n in rows 0 to 2
+unfoldable pub noFigureAt : ℕ → ℕ → ℕ → ℕ → Bool
+noFigureAt n m row column = ltb (m + 2) row || ltb n column || (eqb column n && leb row 2)
+
 module _ (S : Sheet) where
   -- is the key of entry i not above the one before?
   unfoldable pub notAbove : ℕ → Bool
@@ -60,10 +64,7 @@ module _ (S : Sheet) where
 
   -- refusal 5: row above m+2, column above n, column n in rows 0 to 2, or key not above the one before
   unfoldable pub badKey : ℕ → Bool
-  badKey i =
-      let row = rowOf (S .key i) in
-      let column = columnOf (S .key i) in
-      ltb (S .limits + 2) row || ltb (S .materials) column || (eqb column (S .materials) && leb row 2) || notAbove i
+  badKey i = noFigureAt (S .materials) (S .limits) (rowOf (S .key i)) (columnOf (S .key i)) || notAbove i
 
   -- refusal 6: value 0 or outside its range
   unfoldable pub badValue : ℕ → Bool
@@ -80,9 +81,9 @@ unfoldable pub layoutRefusal : List ℕ → Option Numbered
 layoutRefusal s =
     let S = sheetOf s in
     refuse 1 0 (ltb (length s) 12)
-    otherwise refuse 2 0 (not (dimensionsInRange S))
+    otherwise refuse 2 0 (not (dimensionsInRange (S .materials) (S .limits) (S .entries)))
     otherwise refuse 3 0 (not (eqb (length s) (sheetLength (S .entries))))
-    otherwise refuse 4 0 (not (parametersInRange S))
+    otherwise refuse 4 0 (not (parametersInRange (S .numerator) (S .scale) (S .steps)))
     otherwise firstBelow (S .entries) (λ i. refuse 5 i (badKey S i))
     otherwise firstBelow (S .entries) (λ i. refuse 6 i (badValue S i))
     otherwise firstBelow (S .materials) (λ j. refuse 7 j (crossed S j))
