@@ -22,7 +22,8 @@ use Rattle.rules.specs.Sheet.{Sheet, sheetOf, rowOf, columnOf, valueUnder, figu
 use Rattle.rules.specs.Ranges.{neg, _to_, ranges, indexOf, rangeOf, kindAt, inRange, between, dimensionsInRange, parametersInRange}
 use Rattle.rules.specs.Run.{startingMultiplier}
 use Rattle.rules.specs.Refusals.{badValue, crossed, layoutRefusal}
-use Rattle.margins.specs.NotRefused.{otherwise-none, refuse-none, first-none}
+use Rattle.laws.specs.Keys.{key-parts, coefficient-kind, bound-kind}
+use Rattle.laws.specs.NotRefused.{otherwise-none, refuse-none, first-none}
 
 -- The ranges of a problem and of its step count k.
 pub record Accepted (P : Problem) (k : ℕ) : Type 0 where
@@ -79,18 +80,13 @@ rangeAt n row column = rangeOf (kindAt n row column)
 
 -- in the row of limit i
 module _ (n i : ℕ) where
-  -- `kindAt` matches on three `suc`, and 3 + i does not compute to them
-  limit-range : (column : ℕ) → rangeAt n (3 + i) column ≡ rangeOf (cond (eqb column n) Bound Coefficient)
-  unfolding kindAt
-  limit-range column = let three : 3 + i ≡ suc (suc (suc i)) = omega arith in rw three
-
   coefficient-range : (j : ℕ) → j < n → rangeAt n (3 + i) j ≡ neg 1000 to pos 1000
   unfolding rangeOf ranges indexOf
-  coefficient-range j l = rw (limit-range, ne-eqb j n (λ e. omega arith))
+  coefficient-range j l = rw (coefficient-kind n i j l)
 
   bound-range : rangeAt n (3 + i) n ≡ neg 32000000 to pos 32000000
   unfolding rangeOf ranges indexOf
-  bound-range = rw (limit-range, eq-eqb n n refl)
+  bound-range = rw (bound-kind n i)
 
 -- v lies in r
 record Within (r : Range) (v : ℤ) : Type 0 where
@@ -98,10 +94,6 @@ record Within (r : Range) (v : ℤ) : Type 0 where
   high : v ≤ℤ r .greatest
 
 -- ---- figures
--- a key gives its row and its column back
-key-parts : (row column : ℕ) → column < 64 → (rowOf (row * 64 + column) ≡ row) × (columnOf (row * 64 + column) ≡ column)
-key-parts row column l = omega arith
-
 -- every fact of what stands under a key, by cases: 0, or the value of an entry with that key
 module _ (S : Sheet) (key : ℕ) (Q : ℤ → Type 0) (absent : Q (pos 0)) where
   value-cases : (e : ℕ) → ((i : ℕ) → i < e → S .key i ≡ key → Q (S .value i)) → Q (valueUnder S e key)

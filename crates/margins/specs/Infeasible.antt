@@ -12,7 +12,7 @@ use Rattle.rules.specs.Step.{infeasible, stepFrom}
 use Rattle.rules.specs.Run.{stepAt}
 use Rattle.rules.specs.Refusals.{Numbered, refuse, _otherwise_, firstBelow, layoutRefusal, refusalBeforeSteps}
 use Rattle.rules.specs.Answers.{stepRefusal, refusal}
-use Rattle.margins.specs.NotRefused.{otherwise-none}
+use Rattle.laws.specs.NotRefused.{otherwise-none}
 use Rattle.margins.specs.Accepted.{accepted}
 use Rattle.margins.specs.WeakDuality.{none-feasible}
 use Rattle.margins.specs.RunSteps.{StartSign, facts}

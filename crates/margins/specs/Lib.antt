@@ -9,10 +9,8 @@
 --   Violation        Proposition 1(a)
 --   PrimalCost       Proposition 1(b)
 -- From here on it speaks of the definitions:
---   Places           what holds at every place below n
 --   RunSteps         each step of the run has the four facts
 --   Plans            every plan has its margins
---   NotRefused       what follows where nothing is refused
 --   Accepted         the ranges of a sheet that is read
 --   Infeasible       refusal 9 is given only where there is no feasible point
 --   Theorem          demand 3
@@ -30,10 +28,8 @@ pub mod WeakDuality
 pub mod IterateRelation
 pub mod Violation
 pub mod PrimalCost
-pub mod Places
 pub mod RunSteps
 pub mod Plans
-pub mod NotRefused
 pub mod Accepted
 pub mod Infeasible
 pub mod Theorem

@@ -22,8 +22,8 @@ use Rattle.rules.specs.Answers.{stepRefusal}
 use Rattle.margins.specs.Minimal.{minimal-within}
 use Rattle.margins.specs.Lagrangian.{at-zero}
 use Rattle.margins.specs.CostRange.{cheapestEnd, greatestEnd, cheapestCost, cheapest-minimal, greatest-minimal, InCostRange, cost-in-range}
-use Rattle.margins.specs.Places.{any-none}
-use Rattle.margins.specs.NotRefused.{otherwise-none, refuse-none}
+use Rattle.laws.specs.Places.{any-none}
+use Rattle.laws.specs.NotRefused.{otherwise-none, refuse-none}
 use Rattle.margins.specs.RunSteps.{entering, amounts, residuals, residuals-are, rule-1, amounts-minimal, entering-sign, sums-are, totals-are}
 use Rattle.margins.specs.Accepted.{Accepted, accepted}
 use Rattle.margins.specs.Magnitudes.{Fits64, fit, CostMagnitudes, StepMagnitudes, amounts-bnd, cost-magnitudes, residual-bnd, step-magnitudes}

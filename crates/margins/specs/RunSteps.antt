@@ -9,7 +9,7 @@ use Rattle.integer.specs.Vector.{at, at-tabulate}
 use Rattle.rules.specs.Problem.{Problem, Feasible, costOf}
 use Rattle.rules.specs.Step.{reducedCost, amount, residual, dualValue, moved, stepFrom, next}
 use Rattle.rules.specs.Run.{startingMultiplier, start, stateAfter, stepAt}
-use Rattle.margins.specs.Places.{below-zero, below-suc}
+use Rattle.laws.specs.Places.{below-zero, below-suc}
 use Rattle.margins.specs.Minimal.{AllMinimal, rule-minimal}
 use Rattle.margins.specs.FourFacts.{FourFacts, Steps, four-facts}
 use Rattle.margins.specs.WeakDuality.{weak-duality}

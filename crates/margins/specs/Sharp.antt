@@ -18,7 +18,7 @@ use Rattle.rules.specs.Answers.{plan, answer}
 use Rattle.rules.specs.Margins.{square, PlanMargins, Margins}
 use Rattle.rules.specs.Rows.{_∶_, written, Holds}
 use Rattle.rules.specs.Marked.{C1, C2, C3}
-use Rattle.margins.specs.Places.{any-none}
+use Rattle.laws.specs.Places.{any-none}
 use Rattle.margins.specs.Minimal.{most, AllMinimal, WithinBounds}
 use Rattle.margins.specs.Lagrangian.{lagrangian}
 use Rattle.margins.specs.IterateRelation.{norm²}

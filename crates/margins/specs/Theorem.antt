@@ -8,7 +8,7 @@ use Rattle.rules.specs.Run.{planAfter}
 use Rattle.rules.specs.Refusals.{Numbered, layoutRefusal, refusalBeforeSteps}
 use Rattle.rules.specs.Answers.{refusal, planOf, outcomeOf, answer}
 use Rattle.rules.specs.Margins.{Margins}
-use Rattle.margins.specs.NotRefused.{otherwise-none}
+use Rattle.laws.specs.NotRefused.{otherwise-none}
 use Rattle.margins.specs.Accepted.{accepted}
 use Rattle.margins.specs.Plans.{plan-margins}
 use Rattle.margins.specs.Infeasible.{RefusalMargins, refusal-margins}

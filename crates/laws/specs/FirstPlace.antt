@@ -1,0 +1,46 @@
+-- The chain of refusals and the first place, as code meets them: a test that passes hands on, and a loop ends at the first place that is refused.
+use mathlib.Core.Path.{_≡_, refl}
+use mathlib.Core.Bool.{Bool, true, false}
+use mathlib.Core.Option.{Option, none, some}
+use mathlib.Core.Logic.{inl, inr}
+use Prim.Native.Nat.{ℕ, zero, suc, _+_, _<_}
+use native.Mathlib.Nat.{eq-or-lt-of-le, le-of-suc-le-suc, not-suc-le-zero}
+use native.Mathlib.Numerals.{add-one}
+use Rattle.rules.specs.Refusals.{Numbered, refuse, _otherwise_, firstBelow}
+
+-- ---- a row of the table
+module _ (number place : ℕ) where
+  pub refuse-yes : {test : Bool} → test ≡ true → refuse number place test ≡ some (record { number = number; place = place })
+  unfolding refuse
+  refuse-yes h = rw h
+
+  pub refuse-no : {test : Bool} → test ≡ false → refuse number place test ≡ none
+  unfolding refuse
+  refuse-no h = rw h
+
+-- ---- the chain
+pub given : {a : Option Numbered} {r : Numbered} (b : Option Numbered) → a ≡ some r → a otherwise b ≡ some r
+unfolding _otherwise_
+given b h = rw h
+
+pub handed-on : {a : Option Numbered} (b : Option Numbered) → a ≡ none → a otherwise b ≡ b
+unfolding _otherwise_
+handed-on b h = rw h
+
+-- ---- the first place
+module _ (test : ℕ → Option Numbered) where
+  pub first-start : firstBelow 0 test ≡ none
+  unfolding firstBelow
+  first-start = refl
+
+  pub first-more : {j : ℕ} → firstBelow j test ≡ none → test j ≡ none → firstBelow (j + 1) test ≡ none
+  unfolding firstBelow _otherwise_
+  first-more {j} before here = rw (add-one, before) here
+
+  pub first-found : {j : ℕ} {r : Numbered} (n : ℕ) → j < n → firstBelow j test ≡ none → test j ≡ some r → firstBelow n test ≡ some r
+  unfolding firstBelow _otherwise_
+  first-found zero l before here = absurd (not-suc-le-zero l)
+  first-found {j} (suc n) l before here = elim (eq-or-lt-of-le (le-of-suc-le-suc l)) [
+    | inl e ↦ rw (← e, before) here
+    | inr k ↦ rw (first-found n k before here)
+  ]

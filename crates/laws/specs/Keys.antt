@@ -1,0 +1,55 @@
+-- Keys: row × 64 + column, and the kind of figure that a row and a column have.
+use mathlib.Core.Path.{_≡_, refl}
+use mathlib.Core.Logic.{inl, inr}
+use mathlib.Core.Bool.{not, cond, _&&_, _||_}
+use Prim.Native.Nat.{ℕ, suc, _+_, _*_, _<_, _≤_}
+use native.Mathlib.Omega.{arith}
+use borrow.Author.Tests.{eq-eqb, ne-eqb}
+use lib.Dec.{T, ltb, leb, eqb}
+use mir.Facts.{or-no, and-no, ltb-no, leb-no, eqb-no}
+use Rattle.rules.specs.declared.Kind.the-variants.{Coefficient, Bound}
+use Rattle.rules.specs.Sheet.{rowOf, columnOf}
+use Rattle.rules.specs.Ranges.{kindAt}
+use Rattle.rules.specs.Refusals.{noFigureAt}
+
+-- a key gives its row and its column back ..
+pub key-parts : (row column : ℕ) → column < 64 → (rowOf (row * 64 + column) ≡ row) × (columnOf (row * 64 + column) ≡ column)
+key-parts row column l = omega arith
+
+-- .. and they give the key
+pub parts-key : (key : ℕ) → rowOf key * 64 + columnOf key ≡ key
+parts-key key = omega arith
+
+-- in the row of limit i: `kindAt` matches on three `suc`, and 3 + i does not compute to them
+module _ (n i : ℕ) where
+  limit-kind : (column : ℕ) → kindAt n (3 + i) column ≡ cond (eqb column n) Bound Coefficient
+  unfolding kindAt
+  limit-kind column = let three : 3 + i ≡ suc (suc (suc i)) = omega arith in rw three
+
+  pub coefficient-kind : (j : ℕ) → j < n → kindAt n (3 + i) j ≡ Coefficient
+  coefficient-kind j l = rw (limit-kind, ne-eqb j n (λ e. omega arith))
+
+  pub bound-kind : kindAt n (3 + i) n ≡ Bound
+  bound-kind = rw (limit-kind, eq-eqb n n refl)
+
+-- ---- where a figure stands
+pub record FigureAt (n m row column : ℕ) : Type 0 where
+  pub row-in : row ≤ m + 2
+  pub column-in : column ≤ n
+  -- rows 0 to 2 have no column n
+  pub material : row ≤ 2 → column < n
+
+pub figure-at : (n m row column : ℕ) → T (not (noFigureAt n m row column)) → FigureAt n m row column
+unfolding noFigureAt
+figure-at n m row column h =
+    let (outside, last) = or-no (ltb (m + 2) row || ltb n column) (eqb column n && leb row 2) h in
+    let (r, c) = or-no (ltb (m + 2) row) (ltb n column) outside in
+    let column-in : column ≤ n = ltb-no c in
+    record {
+      row-in = ltb-no r;
+      column-in = column-in;
+      material = λ l. elim (and-no (eqb column n) (leb row 2) last) [
+        | inl e ↦ let other : column ≡ n → ⊥ = eqb-no e in omega (arith, other)
+        | inr k ↦ let above : 2 < row = leb-no k in omega arith
+      ];
+    }
