@@ -1,10 +1,10 @@
 -- The chain of refusals and the first place, as code meets them: a test that passes hands on, and a loop ends at the first place that is refused.
-use mathlib.Core.Path.{_≡_, refl}
+use mathlib.Core.Path.{_≡_, refl, ap₂}
 use mathlib.Core.Bool.{Bool, true, false}
 use mathlib.Core.Option.{Option, none, some}
 use mathlib.Core.Logic.{inl, inr}
 use Prim.Native.Nat.{ℕ, zero, suc, _+_, _<_}
-use native.Mathlib.Nat.{eq-or-lt-of-le, le-of-suc-le-suc, not-suc-le-zero}
+use native.Mathlib.Nat.{eq-or-lt-of-le, le-of-suc-le-suc, not-suc-le-zero, le-step, lt-suc-self}
 use native.Mathlib.Numerals.{add-one}
 use Rattle.rules.specs.Refusals.{Numbered, refuse, _otherwise_, firstBelow}
 
@@ -27,7 +27,18 @@ pub handed-on : {a : Option Numbered} (b : Option Numbered) → a ≡ none → a
 unfolding _otherwise_
 handed-on b h = rw h
 
+pub regrouped : (a b c : Option Numbered) → (a otherwise b) otherwise c ≡ a otherwise b otherwise c
+unfolding _otherwise_
+regrouped none b c = refl
+regrouped (some r) b c = refl
+
 -- ---- the first place
+-- only the places below n count
+pub first-cong : (n : ℕ) (test other : ℕ → Option Numbered) → ((i : ℕ) → i < n → test i ≡ other i) → firstBelow n test ≡ firstBelow n other
+unfolding firstBelow
+first-cong zero test other h = refl
+first-cong (suc n) test other h = ap₂ _otherwise_ (first-cong n test other (λ i l. h i (le-step l))) (h n (lt-suc-self n))
+
 module _ (test : ℕ → Option Numbered) where
   pub first-start : firstBelow 0 test ≡ none
   unfolding firstBelow
@@ -44,3 +55,6 @@ module _ (test : ℕ → Option Numbered) where
     | inl e ↦ rw (← e, before) here
     | inr k ↦ rw (first-found n k before here)
   ]
+
+  pub first-end : {j n : ℕ} → j ≡ n → firstBelow j test ≡ none → firstBelow n test ≡ none
+  first-end e h = rw e at h

@@ -1,16 +1,16 @@
 -- Keys: row × 64 + column, and the kind of figure that a row and a column have.
 use mathlib.Core.Path.{_≡_, refl}
 use mathlib.Core.Logic.{inl, inr}
-use mathlib.Core.Bool.{not, cond, _&&_, _||_}
+use mathlib.Core.Bool.{Bool, true, false, not, cond, _&&_, _||_}
 use Prim.Native.Nat.{ℕ, suc, _+_, _*_, _<_, _≤_}
 use native.Mathlib.Omega.{arith}
 use borrow.Author.Tests.{eq-eqb, ne-eqb}
 use lib.Dec.{T, ltb, leb, eqb}
 use mir.Facts.{or-no, and-no, ltb-no, leb-no, eqb-no}
 use Rattle.rules.specs.declared.Kind.the-variants.{Coefficient, Bound}
-use Rattle.rules.specs.Sheet.{rowOf, columnOf}
+use Rattle.rules.specs.Sheet.{Sheet, rowOf, columnOf}
 use Rattle.rules.specs.Ranges.{kindAt}
-use Rattle.rules.specs.Refusals.{noFigureAt}
+use Rattle.rules.specs.Refusals.{noFigureAt, notAbove, badKey}
 
 -- a key gives its row and its column back ..
 pub key-parts : (row column : ℕ) → column < 64 → (rowOf (row * 64 + column) ≡ row) × (columnOf (row * 64 + column) ≡ column)
@@ -39,10 +39,11 @@ pub record FigureAt (n m row column : ℕ) : Type 0 where
   -- rows 0 to 2 have no column n
   pub material : row ≤ 2 → column < n
 
-pub figure-at : (n m row column : ℕ) → T (not (noFigureAt n m row column)) → FigureAt n m row column
+pub figure-at : (n m row column : ℕ) → noFigureAt n m row column ≡ false → FigureAt n m row column
 unfolding noFigureAt
 figure-at n m row column h =
-    let (outside, last) = or-no (ltb (m + 2) row || ltb n column) (eqb column n && leb row 2) h in
+    let t : T (not (noFigureAt n m row column)) = rw h tt in
+    let (outside, last) = or-no (ltb (m + 2) row || ltb n column) (eqb column n && leb row 2) t in
     let (r, c) = or-no (ltb (m + 2) row) (ltb n column) outside in
     let column-in : column ≤ n = ltb-no c in
     record {
@@ -53,3 +54,12 @@ figure-at n m row column h =
         | inr k ↦ let above : 2 < row = leb-no k in omega arith
       ];
     }
+
+-- a good key is the key of a figure
+pub good-key : (S : Sheet) (i : ℕ) → badKey S i ≡ false → noFigureAt (S .materials) (S .limits) (rowOf (S .key i)) (columnOf (S .key i)) ≡ false
+unfolding badKey
+good-key S i h = or-left (noFigureAt (S .materials) (S .limits) (rowOf (S .key i)) (columnOf (S .key i))) (notAbove S i) h
+  where
+    or-left : (a b : Bool) → a || b ≡ false → a ≡ false
+    or-left true b h = h
+    or-left false b h = refl

@@ -17,6 +17,11 @@ unfolding refuse
 refuse-none number place true h = absurd (Option·some-ne-none _ h)
 refuse-none number place false h = tt
 
+pub refuse-false : (number place : ℕ) (test : Bool) → refuse number place test ≡ none → test ≡ false
+unfolding refuse
+refuse-false number place true h = absurd (Option·some-ne-none _ h)
+refuse-false number place false h = refl
+
 pub first-none : (n : ℕ) (test : ℕ → Option Numbered) → firstBelow n test ≡ none → (i : ℕ) → i < n → test i ≡ none
 unfolding firstBelow
 first-none zero test h = below-zero (λ i. test i ≡ none)

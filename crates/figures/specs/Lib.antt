@@ -1,0 +1,5 @@
+-- A problem's figures in arrays.
+--   Arrays    arrays with more places than they have figures
+--   Figures   the arrays of a problem, and what stands at each place
+pub mod Arrays
+pub mod Figures

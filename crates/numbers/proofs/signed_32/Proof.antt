@@ -1,0 +1,19 @@
+-- `signedAt` is `signedOf` of `unsignedAt`, as the code is one call of another.
+use mathlib.Core.Path.{ap, _∙_}
+use mir.Syntax.{w32}
+use mir.Val.{SFits}
+use mir.Facts.{toZ-ofZ}
+use borrow.Author.Needs.{needs}
+use Rattle.rules.specs.Bytes.{signedAt}
+use Rattle.numbers.specs.Inside.{signedOf}
+use Rattle.numbers.proofs.signed_32.Statement.{statement}
+use Rattle.numbers.proofs.signed_32.Tie as tie
+
+returns : tie.Need-returns
+unfolding signedAt signedOf
+returns c =
+    let fits : SFits w32 (c .signed .result) = search needs in
+    toZ-ofZ fits ∙ c .signed .ensures ∙ ap (signedOf 4) (c .before .unsigned-32 .ensures)
+
+pub signed-32-spec : {M : Type 1} → statement M
+signed-32-spec = tie.close (tie.spec (search needs) (search needs) returns)

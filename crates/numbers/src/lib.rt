@@ -1,0 +1,51 @@
+// Little-endian numbers out of a slice of bytes.
+ghost use mathlib.Core.Path.{_≡_};
+ghost use Prim.Native.Nat.{_<_};
+ghost use Rattle.rules.specs.Bytes.{unsignedAt, signedAt};
+ghost use Rattle.numbers.specs.Inside.{Inside, signedOf};
+
+// A byte in 16 bits.
+fn wide_16(b: u8) -> u16
+    ensures { λ r. ⌜ (r ≡ b) × (r < 256) ⌝ }
+{
+    b as u16
+}
+
+// The unsigned number in the 2 bytes from place `at` on.
+pub fn unsigned_16(s: &[u8], at: usize) -> u16
+    requires { ⌜ Inside 2 (now s) at ⌝ }
+    ensures { λ r. ⌜ r ≡ unsignedAt 2 (now (s .entry)) at ⌝ }
+{
+    let low = wide_16(s[at]);
+    let high = wide_16(s[at + 1]);
+    low + 256 * high
+}
+
+// The unsigned number in the 4 bytes from place `at` on.
+fn unsigned_32(s: &[u8], at: usize) -> u32
+    requires { ⌜ Inside 4 (now s) at ⌝ }
+    ensures { λ r. ⌜ r ≡ unsignedAt 4 (now (s .entry)) at ⌝ }
+{
+    let low = unsigned_16(s, at) as u32;
+    let high = unsigned_16(s, at + 2) as u32;
+    low + 65536 * high
+}
+
+// 32 bits as a signed number.
+fn signed(v: u32) -> i32
+    ensures { λ r. ⌜ r ≡ signedOf 4 v ⌝ }
+{
+    if v < 2147483648 {
+        v as i32
+    } else {
+        -1 - ((4294967295 - v) as i32)
+    }
+}
+
+// The signed number in the 4 bytes from place `at` on.
+pub fn signed_32(s: &[u8], at: usize) -> i32
+    requires { ⌜ Inside 4 (now s) at ⌝ }
+    ensures { λ r. ⌜ r ≡ signedAt 4 (now (s .entry)) at ⌝ }
+{
+    signed(unsigned_32(s, at))
+}

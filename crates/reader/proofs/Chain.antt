@@ -1,0 +1,66 @@
+-- The chain of refusals 1 to 7, as the passes hand it on.
+use mathlib.Core.Path.{_≡_, refl, sym, ap₂, _∙_}
+use mathlib.Core.Bool.{true, not}
+use mathlib.Core.List.{List}
+use mathlib.Core.Option.{Option, none, some}
+use Prim.Native.Nat.{ℕ, _<_, _≤_}
+use native.Mathlib.Nat.{lt-of-lt-of-le}
+use borrow.Author.Tests.{lt-ltb, le-ltb, eqb-true, not-false}
+use lib.Dec.{ltb, eqb}
+use lib.ListN.{length}
+use lib.Signed.{ltZ}
+use Rattle.rules.specs.Sheet.{Sheet, sheetOf, sheetLength, problem}
+use Rattle.rules.specs.Ranges.{dimensionsInRange}
+use Rattle.rules.specs.Refusals.{Numbered, refuse, _otherwise_, firstBelow, crossed, layoutRefusal}
+use Rattle.laws.specs.NotRefused.{otherwise-none, refuse-false}
+use Rattle.laws.specs.FirstPlace.{refuse-yes, refuse-no, given, handed-on, regrouped, first-cong}
+use Rattle.figures.specs.Arrays.{at-row}
+use Rattle.figures.specs.declared.Figures.{Figures}
+use Rattle.figures.specs.Figures.{figuresOf}
+use Rattle.reader.specs.declared.Sizes.{Sizes}
+use Rattle.reader.specs.Passes.{sizesOf, headerRefusal, keyRefusal, valueRefusal, crossedRefusal}
+
+-- refusal 7, of the sheet
+unfoldable pub boundRefusal : Sheet → Option Numbered
+boundRefusal S = firstBelow (S .materials) (λ j. refuse 7 j (crossed S j))
+
+-- the arrays of the figures say the same
+pub crossed-is : (S : Sheet) → S .materials ≤ 32 → let F = figuresOf (problem S) (S .steps) in crossedRefusal (F .materials) (F .least) (F .most) ≡ boundRefusal S
+unfolding crossedRefusal boundRefusal crossed figuresOf problem
+crossed-is S narrow =
+    first-cong (S .materials) _ _
+    (λ j l.
+    let k = lt-of-lt-of-le l narrow in
+    λ i. refuse 7 j (ltZ (at-row 32 (S .materials) (problem S .most) j k l i) (at-row 32 (S .materials) (problem S .least) j k l i)))
+
+module _ (s : List ℕ) where
+  abbrev S : Sheet
+  S = sheetOf s
+
+  pub short : length s < 12 → layoutRefusal s ≡ some (record { number = 1; place = 0 })
+  unfolding layoutRefusal
+  short l = given _ (refuse-yes 1 0 (lt-ltb (length s) 12 l))
+
+  module _ (l : 12 ≤ length s) where
+    pub after-short : layoutRefusal s ≡ headerRefusal (length s) (sizesOf s) otherwise keyRefusal S otherwise valueRefusal S otherwise boundRefusal S
+    unfolding layoutRefusal headerRefusal sizesOf keyRefusal valueRefusal boundRefusal
+    after-short = handed-on _ (refuse-no 1 0 (le-ltb (length s) 12 l)) ∙ simp regrouped
+
+    pub after-header : headerRefusal (length s) (sizesOf s) ≡ none → layoutRefusal s ≡ keyRefusal S otherwise valueRefusal S otherwise boundRefusal S
+    after-header h = after-short ∙ handed-on _ h
+
+    pub after-keys : headerRefusal (length s) (sizesOf s) ≡ none → keyRefusal S ≡ none → layoutRefusal s ≡ valueRefusal S otherwise boundRefusal S
+    after-keys h k = after-header h ∙ handed-on _ k
+
+    pub after-values : headerRefusal (length s) (sizesOf s) ≡ none → keyRefusal S ≡ none → valueRefusal S ≡ none → layoutRefusal s ≡ boundRefusal S
+    after-values h k v = after-keys h k ∙ handed-on _ v
+
+-- what passing the header says
+module _ (long : ℕ) (z : Sizes) where
+  pub header-says : headerRefusal long z ≡ none
+      → (dimensionsInRange (z .materials) (z .limits) (z .entries) ≡ true) × (long ≡ sheetLength (z .entries))
+  unfolding headerRefusal
+  header-says h =
+      let (dimensions, h) = otherwise-none _ _ h in
+      let (length, parameters) = otherwise-none _ _ h in
+      (not-false _ (refuse-false 2 0 _ dimensions), eqb-true _ _ (not-false _ (refuse-false 3 0 _ length)))

@@ -1,0 +1,81 @@
+use mathlib.Core.Path.{_≡_}
+use Prim.Native.Nat.{ℕ, _≤_}
+use native.Mathlib.Omega.{arith}
+use borrow.Author.Needs.{needs}
+use Rattle.rules.specs.declared.Kind.{Kind}
+use Rattle.rules.specs.declared.Kind.the-variants.{Coefficient, Bound}
+use Rattle.reader.specs.Passes.{RowOf, firstRow, placeOf}
+use Rattle.reader.proofs.place_of.Statement.{statement}
+use Rattle.reader.proofs.place_of.Tie as tie
+
+-- the first row of the kind that the arm found
+from : {kind : Kind} {row column : ℕ} (this : Kind) → kind ≡ this → RowOf kind row column → firstRow this ≤ row
+from this e h = rw e at (h .from)
+
+enum-told : tie.Need-enum-told
+enum-told c = search needs
+
+enum-told-2 : tie.Need-enum-told-2
+enum-told-2 c = search needs
+
+enum-told-3 : tie.Need-enum-told-3
+enum-told-3 c = search needs
+
+enum-told-4 : tie.Need-enum-told-4
+enum-told-4 c = search needs
+
+sub-result : tie.Need-sub-result
+unfolding firstRow
+sub-result c = let h = from Coefficient (c .enum-told4 .given .1) (c .before .before .pre) in omega arith
+
+mul-result : tie.Need-mul-result
+mul-result c = search needs
+
+add-result : tie.Need-add-result
+add-result c = search needs
+
+enum-told-5 : tie.Need-enum-told-5
+enum-told-5 c = search needs
+
+sub-result-2 : tie.Need-sub-result-2
+unfolding firstRow
+sub-result-2 c = let h = from Bound (c .enum-told5 .given .1) (c .before .before .pre) in omega arith
+
+returns : tie.Need-returns
+unfolding placeOf
+returns c = rw (c .enum-told .given .1)
+
+returns-2 : tie.Need-returns-2
+unfolding placeOf
+returns-2 c = rw (c .enum-told2 .given .1)
+
+returns-3 : tie.Need-returns-3
+unfolding placeOf
+returns-3 c = rw (c .enum-told3 .given .1)
+
+returns-4 : tie.Need-returns-4
+unfolding placeOf
+returns-4 c = rw (c .enum-told4 .given .1)
+
+returns-5 : tie.Need-returns-5
+unfolding placeOf
+returns-5 c = rw (c .enum-told5 .given .1)
+
+pub place-of-spec : {M : Type 1} → statement M
+place-of-spec =
+    tie.close
+    (tie.spec
+    enum-told
+    enum-told-2
+    enum-told-3
+    enum-told-4
+    sub-result
+    mul-result
+    add-result
+    enum-told-5
+    sub-result-2
+    returns
+    returns-2
+    returns-3
+    returns-4
+    returns-5)

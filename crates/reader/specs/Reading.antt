@@ -1,0 +1,35 @@
+-- What reading a sheet's bytes gives: a refusal or none, and beside it the figures.
+use mathlib.Core.Path.{_≡_}
+use mathlib.Core.List.{List}
+use mathlib.Core.Option.{Option, none, some}
+use Prim.Native.Nat.{ℕ}
+use Rattle.rules.specs.Sheet.{Sheet, sheetOf, problem}
+use Rattle.rules.specs.Refusals.{Numbered, numbered, layoutRefusal}
+use Rattle.figures.specs.declared.Figures.{Figures}
+use Rattle.figures.specs.Figures.{figuresOf, noFigures}
+use Rattle.reader.specs.declared.Verdict.{Verdict}
+use Rattle.reader.specs.declared.Verdict.the-variants.{Accepted, Refused}
+use Rattle.reader.specs.declared.Reading.{Reading}
+
+-- what each verdict stands for: no refusal, or a refusal's number and place
+unfoldable pub refusalOf : Verdict → Option Numbered
+refusalOf Accepted = none
+refusalOf (Refused r) = some (numbered r)
+
+-- the figures of a sheet; where it is refused, every one is 0
+unfoldable pub figuresUnless : Option Numbered → Sheet → Figures
+figuresUnless none S = figuresOf (problem S) (S .steps)
+figuresUnless (some r) S = noFigures
+
+-- a reading of S that ends with the given refusal, or with none
+pub record ReadsAs (S : Sheet) (refusal : Option Numbered) (r : Reading) : Type 0 where
+  pub verdict : refusalOf (r .verdict) ≡ refusal
+  pub figures : r .figures ≡ figuresUnless refusal S
+
+-- The reading of a sheet's bytes.
+abbrev pub Reads : List ℕ → Reading → Type 0
+Reads s r = ReadsAs (sheetOf s) (layoutRefusal s) r
+
+-- a verdict with no figures beside it
+unfoldable pub withoutFigures : Verdict → Reading
+withoutFigures v = record { verdict = v; figures = noFigures }

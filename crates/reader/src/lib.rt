@@ -1,0 +1,339 @@
+// A sheet's bytes to its figures, or to refusals 1 to 7.
+ghost use mathlib.Core.Path.{_≡_};
+ghost use Prim.Native.Nat.{_≤_};
+ghost use lib.ListN.{length};
+ghost use Rattle.rules.specs.declared.Kind.the-variants.{Cost, Least, Most, Coefficient, Bound};
+ghost use Rattle.rules.specs.Sheet.{sheetOf};
+ghost use Rattle.numbers.specs.Inside.{Inside};
+ghost use Rattle.figures.specs.Figures.{noFigures};
+ghost use Rattle.reader.specs.Reading.{refusalOf, withoutFigures, Reads, ReadsAs};
+ghost use Rattle.reader.specs.Passes.{Number, Headed, KeyAsked, EntryAsked, Keyed, RowOf, Storable, sizesOf, headerRefusal, keyRefusal, valueRefusal, crossedRefusal, keyRead, entryRead, placeOf, storeIf};
+use figures::Figures;
+use numbers::signed_32;
+use numbers::unsigned_16;
+use ranges::Meaning;
+use ranges::dimensions_in_range;
+use ranges::in_range;
+use ranges::meaning_at;
+use ranges::parameters_in_range;
+use rules::Cause;
+use rules::Kind;
+use rules::Refusal;
+
+// Whether a sheet is refused.
+pub enum Verdict {
+    Accepted,
+    Refused(Refusal),
+}
+
+// What reading a sheet gives. Where it is refused, every figure is 0.
+pub struct Reading {
+    pub verdict: Verdict,
+    pub figures: Figures,
+}
+
+// The six sizes.
+struct Sizes {
+    materials: usize,
+    limits: usize,
+    entries: usize,
+    numerator: usize,
+    scale: usize,
+    steps: usize,
+}
+
+// What reading an entry's key gives. `Bad` is refusal 5.
+enum Key {
+    Good(usize),
+    Bad,
+}
+
+// What reading an entry gives: a value, and its place in the array of its kind. `Bad` is refusal 6.
+enum Entry {
+    Figure { kind: Kind, at: usize, value: i32 },
+    Bad,
+}
+
+fn no_figures() -> Figures
+    ensures { λ r. ⌜ r ≡ noFigures ⌝ }
+{
+    Figures {
+        materials: 0,
+        limits: 0,
+        numerator: 0,
+        scale: 0,
+        steps: 0,
+        cost: [0; 32],
+        least: [0; 32],
+        most: [0; 32],
+        coefficient: [0; 512],
+        bound: [0; 16],
+    }
+}
+
+fn without_figures(verdict: Verdict) -> Reading
+    ensures { λ r. ⌜ r ≡ withoutFigures verdict ⌝ }
+{
+    Reading {
+        verdict: verdict,
+        figures: no_figures(),
+    }
+}
+
+fn refused(place: usize, cause: Cause) -> Verdict
+    ensures { λ r. ⌜ r ≡ Verdict.Refused (record { place = place; cause = cause }) ⌝ }
+{
+    Verdict::Refused(Refusal {
+        place: place,
+        cause: cause,
+    })
+}
+
+// The unsigned number in the 2 bytes from place `at` on.
+fn size_at(s: &[u8], at: usize) -> usize
+    requires { ⌜ Inside 2 (now s) at ⌝ }
+    ensures { λ r. ⌜ Number (now (s .entry)) at r ⌝ }
+{
+    unsigned_16(s, at) as usize
+}
+
+fn sizes_of(s: &[u8]) -> Sizes
+    requires { ⌜ 12 ≤ length (now s) ⌝ }
+    ensures { λ r. ⌜ r ≡ sizesOf (now (s .entry)) ⌝ }
+{
+    Sizes {
+        materials: size_at(s, 0),
+        limits: size_at(s, 2),
+        entries: size_at(s, 4),
+        numerator: size_at(s, 6),
+        scale: size_at(s, 8),
+        steps: size_at(s, 10),
+    }
+}
+
+// Refusals 2 to 4, of a sheet of `length` bytes.
+fn check_header(length: usize, sizes: Sizes) -> Verdict
+    ensures { λ r. ⌜ refusalOf r ≡ headerRefusal length sizes ⌝ }
+{
+    let e = sizes.entries;
+    if !dimensions_in_range(sizes.materials, sizes.limits, e) {
+        return refused(0, Cause::Dimensions);
+    }
+    if length != 12 + 6 * e {
+        return refused(0, Cause::Length);
+    }
+    if !parameters_in_range(sizes.numerator, sizes.scale, sizes.steps) {
+        return refused(0, Cause::Parameters);
+    }
+    Verdict::Accepted
+}
+
+// The key of entry i. `before` is the key before it, if there is one.
+fn read_key(s: &[u8], n: usize, m: usize, i: usize, before: usize) -> Key
+    requires { ⌜ KeyAsked (now s) n m i before ⌝ }
+    ensures { λ r. ⌜ r ≡ keyRead (sheetOf (now (s .entry))) i ⌝ }
+{
+    let key = size_at(s, 12 + 2 * i);
+    let meaning = meaning_at(n, m, key / 64, key % 64);
+    let Meaning::Figure(_) = meaning else {
+        return Key::Bad;
+    };
+    if i == 0 {
+        return Key::Good(key);
+    }
+    if key <= before {
+        return Key::Bad;
+    }
+    Key::Good(key)
+}
+
+// Refusal 5: the first entry whose key is bad.
+fn check_keys(s: &[u8], sizes: Sizes) -> Verdict
+    requires { ⌜ Headed (now s) sizes ⌝ }
+    ensures { λ r. ⌜ refusalOf r ≡ keyRefusal (sheetOf (now (s .entry))) ⌝ }
+{
+    let n = sizes.materials;
+    let m = sizes.limits;
+    let e = sizes.entries;
+    let mut before: usize = 0;
+    let mut i: usize = 0;
+    while i < e {
+        let read = read_key(s, n, m, i, before);
+        let Key::Good(key) = read else {
+            return refused(i, Cause::Key);
+        };
+        before = key;
+        i += 1;
+    }
+    Verdict::Accepted
+}
+
+// The place of a figure in the array of its kind.
+fn place_of(kind: Kind, row: usize, column: usize) -> usize
+    requires { ⌜ RowOf kind row column ⌝ }
+    ensures { λ r. ⌜ r ≡ placeOf kind row column ⌝ }
+{
+    match kind {
+        Kind::Cost => column,
+        Kind::Least => column,
+        Kind::Most => column,
+        Kind::Coefficient => 32 * (row - 3) + column,
+        Kind::Bound => row - 3,
+    }
+}
+
+// Entry i, whose key is good.
+fn read_entry(s: &[u8], n: usize, m: usize, e: usize, i: usize) -> Entry
+    requires { ⌜ EntryAsked (now s) n m e i ⌝ }
+    ensures { λ r. ⌜ r ≡ entryRead (sheetOf (now (s .entry))) i ⌝ }
+{
+    let key = size_at(s, 12 + 2 * i);
+    let row = key / 64;
+    let column = key % 64;
+    let meaning = meaning_at(n, m, row, column);
+    let Meaning::Figure(kind) = meaning else {
+        return Entry::Bad;
+    };
+    let value = signed_32(s, 12 + 2 * e + 4 * i);
+    if value == 0 {
+        return Entry::Bad;
+    }
+    if !in_range(kind, value) {
+        return Entry::Bad;
+    }
+    let at = place_of(kind, row, column);
+    Entry::Figure {
+        kind: kind,
+        at: at,
+        value: value,
+    }
+}
+
+// Stores a value in the array of its kind; the other arrays stay as lent.
+fn store(
+    kind: Kind,
+    at: usize,
+    value: i32,
+    cost: &mut [i16; 32],
+    least: &mut [i16; 32],
+    most: &mut [i16; 32],
+    coefficient: &mut [i16; 512],
+    bound: &mut [i32; 16],
+)
+    requires { ⌜ Storable kind at value ⌝ }
+    ensures { λ _. ⌜ now (cost .exit) ≡ storeIf Cost kind at value (now (cost .entry)) ⌝ }
+    ensures { λ _. ⌜ now (least .exit) ≡ storeIf Least kind at value (now (least .entry)) ⌝ }
+    ensures { λ _. ⌜ now (most .exit) ≡ storeIf Most kind at value (now (most .entry)) ⌝ }
+    ensures { λ _. ⌜ now (coefficient .exit) ≡ storeIf Coefficient kind at value (now (coefficient .entry)) ⌝ }
+    ensures { λ _. ⌜ now (bound .exit) ≡ storeIf Bound kind at value (now (bound .entry)) ⌝ }
+{
+    match kind {
+        Kind::Cost => {
+            cost[at] = value as i16;
+        }
+        Kind::Least => {
+            least[at] = value as i16;
+        }
+        Kind::Most => {
+            most[at] = value as i16;
+        }
+        Kind::Coefficient => {
+            coefficient[at] = value as i16;
+        }
+        Kind::Bound => {
+            bound[at] = value;
+        }
+    }
+}
+
+// The figures, or refusal 6: the first entry whose value is bad.
+fn read_entries(s: &[u8], sizes: Sizes) -> Reading
+    requires { ⌜ Keyed (now s) sizes ⌝ }
+    ensures { λ r. ⌜ ReadsAs (sheetOf (now (s .entry))) (valueRefusal (sheetOf (now (s .entry)))) r ⌝ }
+{
+    let n = sizes.materials;
+    let m = sizes.limits;
+    let e = sizes.entries;
+    let mut cost: [i16; 32] = [0; 32];
+    let mut least: [i16; 32] = [0; 32];
+    let mut most: [i16; 32] = [0; 32];
+    let mut coefficient: [i16; 512] = [0; 512];
+    let mut bound: [i32; 16] = [0; 16];
+    let mut i: usize = 0;
+    while i < e {
+        let entry = read_entry(s, n, m, e, i);
+        let Entry::Figure { kind, at, value } = entry else {
+            return without_figures(refused(i, Cause::Value));
+        };
+        store(
+            kind,
+            at,
+            value,
+            &mut cost,
+            &mut least,
+            &mut most,
+            &mut coefficient,
+            &mut bound,
+        );
+        i += 1;
+    }
+    Reading {
+        verdict: Verdict::Accepted,
+        figures: Figures {
+            materials: n,
+            limits: m,
+            numerator: sizes.numerator,
+            scale: sizes.scale,
+            steps: sizes.steps,
+            cost: cost,
+            least: least,
+            most: most,
+            coefficient: coefficient,
+            bound: bound,
+        },
+    }
+}
+
+// Refusal 7: the first material whose least amount is above its most.
+fn check_bounds<'a>(n: usize, least: &'a [i16; 32], most: &'a [i16; 32]) -> Verdict
+    requires { ⌜ n ≤ 32 ⌝ }
+    ensures { λ r. ⌜ refusalOf r ≡ crossedRefusal n (now (least .entry)) (now (most .entry)) ⌝ }
+{
+    let mut j: usize = 0;
+    while j < n {
+        if most[j] < least[j] {
+            return refused(j, Cause::Bounds);
+        }
+        j += 1;
+    }
+    Verdict::Accepted
+}
+
+// Reads a sheet.
+pub fn read_sheet(s: &[u8]) -> Reading
+    ensures { λ r. ⌜ Reads (now (s .entry)) r ⌝ }
+{
+    if s.len() < 12 {
+        return without_figures(refused(0, Cause::Short));
+    }
+    let sizes = sizes_of(s);
+    let header = check_header(s.len(), sizes);
+    let Verdict::Accepted = header else {
+        return without_figures(header);
+    };
+    let keys = check_keys(s, sizes);
+    let Verdict::Accepted = keys else {
+        return without_figures(keys);
+    };
+    let reading = read_entries(s, sizes);
+    let values = reading.verdict;
+    let Verdict::Accepted = values else {
+        return reading;
+    };
+    let figures = reading.figures;
+    let bounds = check_bounds(figures.materials, &figures.least, &figures.most);
+    let Verdict::Accepted = bounds else {
+        return without_figures(bounds);
+    };
+    reading
+}
