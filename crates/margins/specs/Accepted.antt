@@ -12,10 +12,8 @@ use lib.IntN.{ℤ, pos, natAbs}
 use lib.Signed.{_≤ℤ_, leZ-yes, ltZ-no}
 use lib.Ieee.Fits.{and-l, and-r}
 use mir.Facts.{T-not-not, or-no, leb-yes, eqb-yes}
-use borrow.Author.Tests.{eq-eqb, ne-eqb}
 use Rattle.integer.specs.Order.{≤ℤ-trans}
 use Rattle.integer.specs.Range.{Bnd, bnd-of, bnd-between}
-use Rattle.rules.specs.declared.Kind.the-variants.{Coefficient, Bound}
 use Rattle.rules.specs.declared.Range.{Range}
 use Rattle.rules.specs.Problem.{Problem}
 use Rattle.rules.specs.Sheet.{Sheet, sheetOf, rowOf, columnOf, valueUnder, figure, problem}

@@ -1,28 +1,22 @@
 -- The chain of refusals 1 to 7, as the passes hand it on.
-use mathlib.Core.Path.{_≡_, refl, sym, ap₂, _∙_}
-use mathlib.Core.Bool.{true, not}
+use mathlib.Core.Path.{_≡_, _∙_}
+use mathlib.Core.Bool.{true}
 use mathlib.Core.List.{List}
-use mathlib.Core.Option.{Option, none, some}
+use mathlib.Core.Option.{none, some}
 use Prim.Native.Nat.{ℕ, _<_, _≤_}
 use native.Mathlib.Nat.{lt-of-lt-of-le}
 use borrow.Author.Tests.{lt-ltb, le-ltb, eqb-true, not-false}
-use lib.Dec.{ltb, eqb}
 use lib.ListN.{length}
 use lib.Signed.{ltZ}
 use Rattle.rules.specs.Sheet.{Sheet, sheetOf, sheetLength, problem}
 use Rattle.rules.specs.Ranges.{dimensionsInRange}
-use Rattle.rules.specs.Refusals.{Numbered, refuse, _otherwise_, firstBelow, crossed, layoutRefusal}
+use Rattle.rules.specs.Refusals.{refuse, _otherwise_, crossed, layoutRefusal}
 use Rattle.laws.specs.NotRefused.{otherwise-none, refuse-false}
 use Rattle.laws.specs.FirstPlace.{refuse-yes, refuse-no, given, handed-on, regrouped, first-cong}
 use Rattle.figures.specs.Arrays.{at-row}
-use Rattle.figures.specs.declared.Figures.{Figures}
 use Rattle.figures.specs.Figures.{figuresOf}
 use Rattle.reader.specs.declared.Sizes.{Sizes}
-use Rattle.reader.specs.Passes.{sizesOf, headerRefusal, keyRefusal, valueRefusal, crossedRefusal}
-
--- refusal 7, of the sheet
-unfoldable pub boundRefusal : Sheet → Option Numbered
-boundRefusal S = firstBelow (S .materials) (λ j. refuse 7 j (crossed S j))
+use Rattle.reader.specs.Passes.{sizesOf, headerRefusal, keyRefusal, valueRefusal, crossedRefusal, boundRefusal, figuresRefusal}
 
 -- the arrays of the figures say the same
 pub crossed-is : (S : Sheet) → S .materials ≤ 32 → let F = figuresOf (problem S) (S .steps) in crossedRefusal (F .materials) (F .least) (F .most) ≡ boundRefusal S
@@ -42,18 +36,15 @@ module _ (s : List ℕ) where
   short l = given _ (refuse-yes 1 0 (lt-ltb (length s) 12 l))
 
   module _ (l : 12 ≤ length s) where
-    pub after-short : layoutRefusal s ≡ headerRefusal (length s) (sizesOf s) otherwise keyRefusal S otherwise valueRefusal S otherwise boundRefusal S
-    unfolding layoutRefusal headerRefusal sizesOf keyRefusal valueRefusal boundRefusal
+    pub after-short : layoutRefusal s ≡ headerRefusal (length s) (sizesOf s) otherwise keyRefusal S otherwise figuresRefusal S
+    unfolding layoutRefusal headerRefusal sizesOf keyRefusal figuresRefusal valueRefusal boundRefusal
     after-short = handed-on _ (refuse-no 1 0 (le-ltb (length s) 12 l)) ∙ simp regrouped
 
-    pub after-header : headerRefusal (length s) (sizesOf s) ≡ none → layoutRefusal s ≡ keyRefusal S otherwise valueRefusal S otherwise boundRefusal S
+    pub after-header : headerRefusal (length s) (sizesOf s) ≡ none → layoutRefusal s ≡ keyRefusal S otherwise figuresRefusal S
     after-header h = after-short ∙ handed-on _ h
 
-    pub after-keys : headerRefusal (length s) (sizesOf s) ≡ none → keyRefusal S ≡ none → layoutRefusal s ≡ valueRefusal S otherwise boundRefusal S
+    pub after-keys : headerRefusal (length s) (sizesOf s) ≡ none → keyRefusal S ≡ none → layoutRefusal s ≡ figuresRefusal S
     after-keys h k = after-header h ∙ handed-on _ k
-
-    pub after-values : headerRefusal (length s) (sizesOf s) ≡ none → keyRefusal S ≡ none → valueRefusal S ≡ none → layoutRefusal s ≡ boundRefusal S
-    after-values h k v = after-keys h k ∙ handed-on _ v
 
 -- what passing the header says
 module _ (long : ℕ) (z : Sizes) where

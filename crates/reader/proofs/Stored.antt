@@ -1,13 +1,13 @@
 -- The arrays while the entries are read: after e entries, the array of a kind holds what the first e entries say, and one entry more changes
 -- one place of one array.
-use mathlib.Core.Path.{_≡_, refl, sym, ap, _∙_}
+use mathlib.Core.Path.{_≡_, refl, sym, ap, _∙_, transport}
 use mathlib.Core.Bool.{Bool, true, false, not, cond, _&&_, _||_}
 use mathlib.Core.List.{List}
 use Prim.Native.Nat.{ℕ, zero, suc, _+_, _-_, _*_, _/_, _%_, _<_, _≤_}
 use native.Mathlib.Omega.{arith}
 use native.Mathlib.Numerals.{add-one}
-use borrow.Author.Tests.{lt-ltb, le-ltb, ltb-true, ltb-false, leb-true, leb-false, eqb-true, eqb-false, eq-eqb, ne-eqb, not-false}
-use lib.Dec.{T, ltb, leb, eqb, lit<}
+use borrow.Author.Tests.{lt-ltb, ltb-true, eqb-true, eqb-false, eq-eqb, ne-eqb, not-false}
+use lib.Dec.{T, ltb, eqb, lit<}
 use lib.IntN.{ℤ, pos, natAbs}
 use lib.Signed.{_≤ℤ_, leZ-yes}
 use lib.Ieee.Fits.{and-l, and-r}
@@ -18,42 +18,15 @@ use Rattle.rules.specs.declared.Kind.{Kind}
 use Rattle.rules.specs.declared.Kind.the-variants.{Cost, Least, Most, Coefficient, Bound}
 use Rattle.rules.specs.Sheet.{Sheet, rowOf, columnOf, valueUnder, figure, problem}
 use Rattle.rules.specs.Ranges.{indexOf, kindAt, ranges, rangeOf, inRange}
-use Rattle.rules.specs.Refusals.{noFigureAt, badValue}
+use Rattle.rules.specs.Refusals.{badValue}
 use Rattle.laws.specs.Keys.{FigureAt, key-parts, parts-key, coefficient-kind, bound-kind}
-use Rattle.figures.specs.Arrays.{placed, placed-cong, placed-set, placed-zero}
+use Rattle.figures.specs.Arrays.{placed-cong, placed-set, placed-zero}
 use Rattle.figures.specs.declared.Figures.{Figures}
 use Rattle.figures.specs.Figures.{figuresOf}
 use Rattle.figures.specs.Arrays as figures
-use Rattle.reader.specs.Passes.{Storable, placeOf, roomOf, widthOf, storeIf}
-
--- ---- where the figures of a kind stand, with n materials and m limits
--- has place x of its array a figure?
-unfoldable pub hasFigure : ℕ → ℕ → Kind → ℕ → Bool
-hasFigure n m Cost x = ltb x n
-hasFigure n m Least x = ltb x n
-hasFigure n m Most x = ltb x n
-hasFigure n m Coefficient x = ltb (x / 32) m && ltb (x % 32) n
-hasFigure n m Bound x = ltb x m
-
--- its row and its column
-unfoldable pub rowAt : Kind → ℕ → ℕ
-rowAt Cost x = 0
-rowAt Least x = 1
-rowAt Most x = 2
-rowAt Coefficient x = 3 + x / 32
-rowAt Bound x = 3 + x
-
-unfoldable pub columnAt : ℕ → Kind → ℕ → ℕ
-columnAt n Cost x = x
-columnAt n Least x = x
-columnAt n Most x = x
-columnAt n Coefficient x = x % 32
-columnAt n Bound x = n
-
--- the array of a kind, after the first e entries
-unfoldable pub arrayAfter : Sheet → Kind → ℕ → List ℤ
-arrayAfter S kind e =
-    placed (roomOf kind) (hasFigure (S .materials) (S .limits) kind) (λ x. valueUnder S e (rowAt kind x * 64 + columnAt (S .materials) kind x))
+use Rattle.reader.specs.declared.Entry.the-variants.{Figure}
+use Rattle.reader.specs.Passes.{Storable, entryRead, placeOf, roomOf, widthOf, hasFigure, rowAt, columnAt, arrayAfter, storeIf}
+use Rattle.reader.proofs.EntryRead.{Figured, figure-says}
 
 -- ---- a place gives a row and a column, and they give the kind and the place back
 record Back (n : ℕ) (kind : Kind) (x : ℕ) : Type 0 where
@@ -193,7 +166,7 @@ module _ (S : Sheet) (i : ℕ) where
         (sym k, sym (rw (k, e, r, c) (b .same-place)))
 
     -- its place and its value fit the array
-    pub storable : badValue S i ≡ false → Storable kind place (S .value i)
+    storable : badValue S i ≡ false → Storable kind place (S .value i)
     storable h = record { below = there n m row column narrow few good .below; fits = fits kind (S .value i) (value-in S i h) }
 
     -- storing entry i changes the array of its kind ..
@@ -212,7 +185,7 @@ module _ (S : Sheet) (i : ℕ) where
         placed-cong (roomOf mine) (hasFigure n m mine) (λ x. valueUnder S i (keyAt mine x)) (λ x. valueUnder S (i + 1) (keyAt mine x))
         (λ y _ h. other-key (keyAt mine y) (λ e. other (own-place mine y h e .0)))
 
-    pub stored : (mine : Kind) → storeIf mine kind place (S .value i) (arrayAfter S mine i) ≡ arrayAfter S mine (i + 1)
+    stored : (mine : Kind) → storeIf mine kind place (S .value i) (arrayAfter S mine i) ≡ arrayAfter S mine (i + 1)
     unfolding storeIf
     stored mine = by (eqb (indexOf mine) (indexOf kind)) refl
       where
@@ -221,13 +194,28 @@ module _ (S : Sheet) (i : ℕ) where
         by true e = let same : mine ≡ kind = sym (kind-index mine) ∙ ap kindOf (eqb-true _ _ e) ∙ kind-index kind in rw same here
         by false e = elsewhere mine (λ same. eqb-false _ _ e (ap indexOf same))
 
+-- ---- an entry that was read: it fits its array, and storing it gives the arrays after it
+module _ (S : Sheet) (i : ℕ) (narrow : S .materials ≤ 32) (few : S .limits ≤ 16)
+    (good : FigureAt (S .materials) (S .limits) (rowOf (S .key i)) (columnOf (S .key i)))
+    {k : Kind} {at : ℕ} {v : ℤ} (read : entryRead S i ≡ Figure k at v) where
+  abbrev says : Figured (badValue S i) (kind S i) k (place S i) at (S .value i) v
+  says = figure-says S i read
+
+  pub entry-fits : Storable k at v
+  entry-fits = transport (λ j. Storable (says .same-kind j) (says .same-place j) (says .same-value j)) (storable S i narrow few good (says .good))
+
+  pub entry-stored : (mine : Kind) {array : List ℤ} → array ≡ arrayAfter S mine i → storeIf mine k at v array ≡ arrayAfter S mine (i + 1)
+  entry-stored mine e =
+      (λ j. storeIf mine (sym (says .same-kind) j) (sym (says .same-place) j) (sym (says .same-value) j) (e j))
+      ∙ stored S i narrow few good mine
+
 -- ---- before the first entry, and after the last
 pub none-stored : (S : Sheet) (kind : Kind) → arrayAfter S kind 0 ≡ replicate (roomOf kind) (pos 0)
 unfolding arrayAfter valueUnder
 none-stored S kind = placed-zero (roomOf kind) (hasFigure (S .materials) (S .limits) kind)
 
 -- the array of a kind among the figures
-abbrev arrayIn : Figures → Kind → List ℤ
+abbrev pub arrayIn : Figures → Kind → List ℤ
 arrayIn F Cost = F .cost
 arrayIn F Least = F .least
 arrayIn F Most = F .most

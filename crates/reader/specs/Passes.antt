@@ -1,10 +1,10 @@
 -- What the passes over a sheet ask and give.
 use mathlib.Core.Path.{_≡_}
-use mathlib.Core.Bool.{Bool, true, false, not, cond}
+use mathlib.Core.Bool.{Bool, true, false, not, cond, _&&_}
 use mathlib.Core.List.{List}
 use mathlib.Core.Option.{Option, none}
-use Prim.Native.Nat.{ℕ, zero, suc, _+_, _-_, _*_, _<_, _≤_}
-use lib.Dec.{eqb}
+use Prim.Native.Nat.{ℕ, zero, suc, _+_, _-_, _*_, _/_, _%_, _<_, _≤_}
+use lib.Dec.{ltb, eqb}
 use lib.IntN.{ℤ}
 use lib.ListN.{length, set}
 use lib.Signed.{ltZ}
@@ -14,9 +14,12 @@ use Rattle.integer.specs.Vector.{at}
 use Rattle.rules.specs.declared.Kind.{Kind}
 use Rattle.rules.specs.declared.Kind.the-variants.{Cost, Least, Most, Coefficient, Bound}
 use Rattle.rules.specs.Bytes.{unsignedAt}
-use Rattle.rules.specs.Sheet.{Sheet, sheetOf, sheetLength, rowOf, columnOf}
+use Rattle.rules.specs.Sheet.{Sheet, sheetOf, sheetLength, rowOf, columnOf, valueUnder}
 use Rattle.rules.specs.Ranges.{indexOf, kindAt, dimensionsInRange, parametersInRange}
-use Rattle.rules.specs.Refusals.{Numbered, refuse, _otherwise_, firstBelow, noFigureAt, badKey, badValue}
+use Rattle.rules.specs.Refusals.{Numbered, refuse, _otherwise_, firstBelow, noFigureAt, badKey, badValue, crossed}
+use Rattle.figures.specs.Arrays.{placed}
+use Rattle.reader.specs.declared.Verdict.{Verdict}
+use Rattle.reader.specs.declared.Verdict.the-variants.{Accepted, Refused}
 use Rattle.reader.specs.declared.Sizes.{Sizes}
 use Rattle.reader.specs.declared.Key.{Key}
 use Rattle.reader.specs.declared.Key.the-variants as Key
@@ -159,6 +162,59 @@ pub record Storable (kind : Kind) (place : ℕ) (value : ℤ) : Type 0 where
 unfoldable pub storeIf : Kind → Kind → ℕ → ℤ → List ℤ → List ℤ
 storeIf mine kind place value array = cond (eqb (indexOf mine) (indexOf kind)) (set array place value) array
 
+-- has place x of the array of a kind a figure, with n materials and m limits?
+unfoldable pub hasFigure : ℕ → ℕ → Kind → ℕ → Bool
+hasFigure n m Cost x = ltb x n
+hasFigure n m Least x = ltb x n
+hasFigure n m Most x = ltb x n
+hasFigure n m Coefficient x = ltb (x / 32) m && ltb (x % 32) n
+hasFigure n m Bound x = ltb x m
+
+-- the row and the column of that figure
+unfoldable pub rowAt : Kind → ℕ → ℕ
+rowAt Cost x = 0
+rowAt Least x = 1
+rowAt Most x = 2
+rowAt Coefficient x = 3 + x / 32
+rowAt Bound x = 3 + x
+
+unfoldable pub columnAt : ℕ → Kind → ℕ → ℕ
+columnAt n Cost x = x
+columnAt n Least x = x
+columnAt n Most x = x
+columnAt n Coefficient x = x % 32
+columnAt n Bound x = n
+
+-- the array of a kind, after the first e entries
+unfoldable pub arrayAfter : Sheet → Kind → ℕ → List ℤ
+arrayAfter S kind e =
+    placed (roomOf kind) (hasFigure (S .materials) (S .limits) kind) (λ x. valueUnder S e (rowAt kind x * 64 + columnAt (S .materials) kind x))
+
+-- the five arrays, after the first e entries
+pub record Stored (S : Sheet) (e : ℕ) (cost least most coefficient bound : List ℤ) : Type 0 where
+  pub costs : cost ≡ arrayAfter S Cost e
+  pub leasts : least ≡ arrayAfter S Least e
+  pub mosts : most ≡ arrayAfter S Most e
+  pub coefficients : coefficient ≡ arrayAfter S Coefficient e
+  pub bounds : bound ≡ arrayAfter S Bound e
+
+-- storing the entries asks that the keys are good, and that nothing is stored yet
+pub record StoreAsked (s : List ℕ) (z : Sizes) (cost least most coefficient bound : List ℤ) : Type 0 where
+  pub keyed : Keyed s z
+  pub empty : Stored (sheetOf s) 0 cost least most coefficient bound
+
+-- how many entries are stored: those before the refused one, or all e
+unfoldable pub storedBy : Verdict → ℕ → ℕ
+storedBy Accepted e = e
+storedBy (Refused r) e = r .place
+
 -- refusal 7, of arrays of least and most amounts
 unfoldable pub crossedRefusal : ℕ → List ℤ → List ℤ → Option Numbered
 crossedRefusal n least most = firstBelow n (λ j. refuse 7 j (ltZ (at most j) (at least j)))
+
+-- refusal 7 of a sheet, and refusals 6 and 7
+unfoldable pub boundRefusal : Sheet → Option Numbered
+boundRefusal S = firstBelow (S .materials) (λ j. refuse 7 j (crossed S j))
+
+unfoldable pub figuresRefusal : Sheet → Option Numbered
+figuresRefusal S = valueRefusal S otherwise boundRefusal S

@@ -7,7 +7,7 @@ ghost use Rattle.rules.specs.Sheet.{sheetOf};
 ghost use Rattle.numbers.specs.Inside.{Inside};
 ghost use Rattle.figures.specs.Figures.{noFigures};
 ghost use Rattle.reader.specs.Reading.{refusalOf, withoutFigures, Reads, ReadsAs};
-ghost use Rattle.reader.specs.Passes.{Number, Headed, KeyAsked, EntryAsked, Keyed, RowOf, Storable, sizesOf, headerRefusal, keyRefusal, valueRefusal, crossedRefusal, keyRead, entryRead, placeOf, storeIf};
+ghost use Rattle.reader.specs.Passes.{Number, Headed, KeyAsked, EntryAsked, Keyed, RowOf, Storable, StoreAsked, Stored, storedBy, figuresRefusal, sizesOf, headerRefusal, keyRefusal, valueRefusal, crossedRefusal, keyRead, entryRead, placeOf, storeIf};
 use figures::Figures;
 use numbers::signed_32;
 use numbers::unsigned_16;
@@ -246,52 +246,33 @@ fn store(
     }
 }
 
-// The figures, or refusal 6: the first entry whose value is bad.
-fn read_entries(s: &[u8], sizes: Sizes) -> Reading
-    requires { ⌜ Keyed (now s) sizes ⌝ }
-    ensures { λ r. ⌜ ReadsAs (sheetOf (now (s .entry))) (valueRefusal (sheetOf (now (s .entry)))) r ⌝ }
+// Refusal 6: the first entry whose value is bad. The values of the entries before it are stored.
+fn store_entries(
+    s: &[u8],
+    sizes: Sizes,
+    cost: &mut [i16; 32],
+    least: &mut [i16; 32],
+    most: &mut [i16; 32],
+    coefficient: &mut [i16; 512],
+    bound: &mut [i32; 16],
+) -> Verdict
+    requires { ⌜ StoreAsked (now s) sizes (now cost) (now least) (now most) (now coefficient) (now bound) ⌝ }
+    ensures { λ r. ⌜ refusalOf r ≡ valueRefusal (sheetOf (now (s .entry))) ⌝ }
+    ensures { λ r. ⌜ Stored (sheetOf (now (s .entry))) (storedBy r (sizes .entries)) (now (cost .exit)) (now (least .exit)) (now (most .exit)) (now (coefficient .exit)) (now (bound .exit)) ⌝ }
 {
     let n = sizes.materials;
     let m = sizes.limits;
     let e = sizes.entries;
-    let mut cost: [i16; 32] = [0; 32];
-    let mut least: [i16; 32] = [0; 32];
-    let mut most: [i16; 32] = [0; 32];
-    let mut coefficient: [i16; 512] = [0; 512];
-    let mut bound: [i32; 16] = [0; 16];
     let mut i: usize = 0;
     while i < e {
         let entry = read_entry(s, n, m, e, i);
         let Entry::Figure { kind, at, value } = entry else {
-            return without_figures(refused(i, Cause::Value));
+            return refused(i, Cause::Value);
         };
-        store(
-            kind,
-            at,
-            value,
-            &mut cost,
-            &mut least,
-            &mut most,
-            &mut coefficient,
-            &mut bound,
-        );
+        store(kind, at, value, cost, least, most, coefficient, bound);
         i += 1;
     }
-    Reading {
-        verdict: Verdict::Accepted,
-        figures: Figures {
-            materials: n,
-            limits: m,
-            numerator: sizes.numerator,
-            scale: sizes.scale,
-            steps: sizes.steps,
-            cost: cost,
-            least: least,
-            most: most,
-            coefficient: coefficient,
-            bound: bound,
-        },
-    }
+    Verdict::Accepted
 }
 
 // Refusal 7: the first material whose least amount is above its most.
@@ -307,6 +288,41 @@ fn check_bounds<'a>(n: usize, least: &'a [i16; 32], most: &'a [i16; 32]) -> Verd
         j += 1;
     }
     Verdict::Accepted
+}
+
+// The figures, or refusal 6 or 7. The arrays have the letters of the paper.
+fn read_figures(s: &[u8], sizes: Sizes) -> Reading
+    requires { ⌜ Keyed (now s) sizes ⌝ }
+    ensures { λ r. ⌜ ReadsAs (sheetOf (now (s .entry))) (figuresRefusal (sheetOf (now (s .entry)))) r ⌝ }
+{
+    let mut c: [i16; 32] = [0; 32];
+    let mut l: [i16; 32] = [0; 32];
+    let mut u: [i16; 32] = [0; 32];
+    let mut a: [i16; 512] = [0; 512];
+    let mut b: [i32; 16] = [0; 16];
+    let values = store_entries(s, sizes, &mut c, &mut l, &mut u, &mut a, &mut b);
+    let Verdict::Accepted = values else {
+        return without_figures(values);
+    };
+    let bounds = check_bounds(sizes.materials, &l, &u);
+    let Verdict::Accepted = bounds else {
+        return without_figures(bounds);
+    };
+    Reading {
+        verdict: Verdict::Accepted,
+        figures: Figures {
+            materials: sizes.materials,
+            limits: sizes.limits,
+            numerator: sizes.numerator,
+            scale: sizes.scale,
+            steps: sizes.steps,
+            cost: c,
+            least: l,
+            most: u,
+            coefficient: a,
+            bound: b,
+        },
+    }
 }
 
 // Reads a sheet.
@@ -325,15 +341,5 @@ pub fn read_sheet(s: &[u8]) -> Reading
     let Verdict::Accepted = keys else {
         return without_figures(keys);
     };
-    let reading = read_entries(s, sizes);
-    let values = reading.verdict;
-    let Verdict::Accepted = values else {
-        return reading;
-    };
-    let figures = reading.figures;
-    let bounds = check_bounds(figures.materials, &figures.least, &figures.most);
-    let Verdict::Accepted = bounds else {
-        return without_figures(bounds);
-    };
-    reading
+    read_figures(s, sizes)
 }

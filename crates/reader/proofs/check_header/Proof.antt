@@ -1,14 +1,12 @@
 -- Each test that fails ends in its own link of the chain; e, in its range, keeps the length small.
 use mathlib.Core.Path.{_≡_, sym, ap, _∙_}
-use mathlib.Core.Bool.{Bool, true, false}
-use Prim.Native.Nat.{_≤_}
+use mathlib.Core.Bool.{true, false}
 use native.Mathlib.Omega.{arith}
 use borrow.Author.Needs.{needs}
 use borrow.Author.Tests.{not-true, not-false}
-use Rattle.rules.specs.Ranges.{dimensionsInRange, parametersInRange}
+use Rattle.rules.specs.Ranges.{dimensionsInRange}
 use Rattle.rules.specs.Refusals.{numberOf, numbered}
-use Rattle.laws.specs.Sizes.{Dimensions, dimensions}
-use Rattle.reader.specs.declared.Sizes.{Sizes}
+use Rattle.laws.specs.Sizes.{dimensions}
 use Rattle.reader.specs.Reading.{refusalOf}
 use Rattle.reader.proofs.Header.{refused-2, refused-3, refused-4, passed}
 use Rattle.reader.proofs.check_header.Statement.{statement}

@@ -1,19 +1,16 @@
 -- The keys of the entries below i are good, and `before` is the last of them.
 use mathlib.Core.Path.{_≡_, refl, sym, ap, _∙_}
-use mathlib.Core.Bool.{true}
-use mathlib.Core.List.{List}
 use mathlib.Core.Option.{Option, none}
-use Prim.Native.Nat.{ℕ, _+_, _-_, _≤_}
+use Prim.Native.Nat.{ℕ, _-_, _≤_}
 use native.Mathlib.Omega.{arith}
 use borrow.Author.Needs.{needs}
 use Rattle.rules.specs.Sheet.{Sheet, sheetOf}
 use Rattle.rules.specs.Refusals.{Numbered, numberOf, numbered, refuse, firstBelow, badKey}
 use Rattle.laws.specs.Sizes.{dimensions}
 use Rattle.laws.specs.FirstPlace.{refuse-yes, refuse-no, first-start, first-more, first-found, first-end}
-use Rattle.reader.specs.declared.Key.the-variants.{Good, Bad}
 use Rattle.reader.specs.declared.Sizes.{Sizes}
 use Rattle.reader.specs.Reading.{refusalOf}
-use Rattle.reader.specs.Passes.{sizesOf, keyBefore, keyRead, keyRefusal}
+use Rattle.reader.specs.Passes.{sizesOf, keyBefore, keyRefusal}
 use Rattle.reader.proofs.KeyRead.{good-says, bad-says, before-next}
 use Rattle.reader.proofs.check_keys.Statement.{statement}
 use Rattle.reader.proofs.check_keys.Tie as tie

@@ -1,11 +1,11 @@
 -- The key's place has a figure, as is asked; the value's two tests decide.
-use mathlib.Core.Path.{_≡_, refl, sym, ap, _∙_}
-use mathlib.Core.Bool.{true, false}
+use mathlib.Core.Path.{_≡_, sym, ap, _∙_}
+use mathlib.Core.Bool.{false}
 use Prim.Native.Nat.{ℕ, _+_, _*_}
 use native.Mathlib.Omega.{arith}
 use borrow.Author.Needs.{needs}
 use borrow.Author.Tests.{not-true, not-false}
-use lib.IntN.{ℤ, pos}
+use lib.IntN.{pos}
 use mir.Syntax.{w32}
 use mir.Val.{SFits, toZ, ofZ}
 use mir.Facts.{toZ-ofZ}
@@ -16,8 +16,8 @@ use Rattle.rules.specs.Ranges.{rangeOf, kindAt, inRange}
 use Rattle.rules.specs.Refusals.{noFigureAt}
 use Rattle.ranges.specs.declared.Meaning.the-variants as Meaning
 use Rattle.ranges.specs.Meaning.{meaningAt, nothing-says, figure-says}
-use Rattle.reader.specs.declared.Entry.the-variants.{Figure, Bad}
-use Rattle.reader.specs.Passes.{placeOf, entryRead}
+use Rattle.reader.specs.declared.Entry.the-variants.{Figure}
+use Rattle.reader.specs.Passes.{placeOf}
 use Rattle.reader.proofs.EntryRead.{zero-value, out-of-range, in-range, row-of}
 use Rattle.reader.proofs.read_entry.Statement.{statement}
 use Rattle.reader.proofs.read_entry.Tie as tie

@@ -1,16 +1,13 @@
 -- The key's place decides, and then the key before it.
 use mathlib.Core.Path.{_≡_, sym, ap, _∙_}
-use mathlib.Core.Bool.{true, false}
-use Prim.Native.Nat.{ℕ, _/_, _%_}
+use mathlib.Core.Bool.{false}
+use Prim.Native.Nat.{ℕ}
 use native.Mathlib.Omega.{arith}
 use borrow.Author.Needs.{needs}
 use Rattle.rules.specs.Sheet.{Sheet, sheetOf, rowOf, columnOf}
 use Rattle.rules.specs.Refusals.{noFigureAt}
-use Rattle.ranges.specs.declared.Meaning.{Meaning}
-use Rattle.ranges.specs.declared.Meaning.the-variants.{Figure, Nothing}
 use Rattle.ranges.specs.Meaning.{meaningAt, nothing-says, figure-says}
 use Rattle.reader.specs.declared.Key.the-variants.{Good}
-use Rattle.reader.specs.Passes.{keyRead}
 use Rattle.reader.proofs.KeyRead.{no-figure, first-key, falling, rising}
 use Rattle.reader.proofs.read_key.Statement.{statement}
 use Rattle.reader.proofs.read_key.Tie as tie

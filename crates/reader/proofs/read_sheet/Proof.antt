@@ -1,22 +1,18 @@
 -- Each pass hands on where it refuses nothing, and the reading ends with the first that refuses.
-use mathlib.Core.Path.{_≡_, refl, sym, ap, _∙_}
+use mathlib.Core.Path.{_≡_, sym, ap, _∙_}
 use mathlib.Core.List.{List}
-use mathlib.Core.Option.{Option, none, some}
+use mathlib.Core.Option.{none}
 use Prim.Native.Nat.{ℕ, _≤_}
-use native.Mathlib.Omega.{arith}
 use lib.ListN.{length}
 use borrow.Author.Needs.{needs}
-use Rattle.rules.specs.Sheet.{Sheet, sheetOf, problem}
-use Rattle.rules.specs.Refusals.{Numbered, numberOf, numbered, layoutRefusal}
+use Rattle.rules.specs.Sheet.{sheetOf}
+use Rattle.rules.specs.Refusals.{numberOf, numbered}
 use Rattle.laws.specs.Sizes.{dimensions}
 use Rattle.laws.specs.FirstPlace.{given}
-use Rattle.figures.specs.declared.Figures.{Figures}
-use Rattle.figures.specs.Figures.{figuresOf}
-use Rattle.reader.specs.declared.Sizes.{Sizes}
-use Rattle.reader.specs.Reading.{refusalOf, figuresUnless}
-use Rattle.reader.specs.Passes.{Headed, sizesOf, headerRefusal, keyRefusal, valueRefusal, crossedRefusal}
-use Rattle.reader.proofs.Chain.{boundRefusal, crossed-is, short, after-short, after-header, after-keys, after-values, header-says}
-use Rattle.reader.proofs.Outcome.{turned-back, read-whole, told-as}
+use Rattle.reader.specs.Reading.{refusalOf}
+use Rattle.reader.specs.Passes.{Headed, sizesOf, headerRefusal, keyRefusal}
+use Rattle.reader.proofs.Chain.{short, after-short, after-header, after-keys, header-says}
+use Rattle.reader.proofs.Outcome.{turned-back, told-as}
 use Rattle.reader.proofs.read_sheet.Statement.{statement}
 use Rattle.reader.proofs.read_sheet.Tie as tie
 
@@ -61,10 +57,6 @@ module _ (c : tie.After-enum-told) where
       let (dimensions, long) = header-says (length (s a)) z (sym (a .check-header .ensures) ∙ ap refusalOf (c .enum-told .given .1)) in
       record { sizes = a .before .sizes-of .ensures; dimensions = dimensions; long = long }
 
-  narrow : sheetOf (s a) .materials ≤ 32
-  unfolding sizesOf
-  narrow = omega (arith, dimensions _ _ _ (headed .dimensions) .narrow, ap (λ (z : Sizes). z .materials) (headed .sizes))
-
 check-keys-requires : tie.Need-check-keys-requires
 check-keys-requires c κs = headed c
 
@@ -86,66 +78,13 @@ module _ (c : tie.After-enum-told3) where
   unfolding refusalOf
   no-keys = sym (c .before .before .check-keys .ensures) ∙ ap refusalOf (c .enum-told3 .given .1)
 
-read-entries-requires : tie.Need-read-entries-requires
-read-entries-requires c κs = record { headed = headed (h c); keys = no-keys c }
+read-figures-requires : tie.Need-read-figures-requires
+read-figures-requires c κs = record { headed = headed (h c); keys = no-keys c }
 
 returns-4 : tie.Need-returns-4
-unfolding refusalOf
 returns-4 c =
-    let r = c .before .before in
-    let k = r .before in
-    let value = sym (r .read-entries .ensures .verdict) ∙ ap refusalOf (c .enum-told6 .given .1) in
-    told-as (sheetOf (s (a (h k)))) (value ∙ sym (after-keys (s (a (h k))) (long (a (h k))) (no-header (h k)) (no-keys k) ∙ given _ value)) (r .read-entries .ensures)
-
--- the values are passed, and the figures are the sheet's
-module _ (c : tie.After-enum-told5) where
-  abbrev k : tie.After-enum-told3
-  k = c .before .before .before
-
-  abbrev S : Sheet
-  S = sheetOf (s (a (h k)))
-
-  abbrev F : Figures
-  F = c .before .before .read-entries .result .figures
-
-  no-values : valueRefusal S ≡ none
-  unfolding refusalOf
-  no-values = sym (c .before .before .read-entries .ensures .verdict) ∙ ap refusalOf (c .enum-told5 .given .1)
-
-  figures : F ≡ figuresOf (problem S) (S .steps)
-  unfolding figuresUnless
-  figures = c .before .before .read-entries .ensures .figures ∙ (λ j. figuresUnless (no-values j) S)
-
-check-bounds-requires : tie.Need-check-bounds-requires
-unfolding figuresOf problem
-check-bounds-requires c κs =
-    let v = c .before .before .before .before in
-    omega (arith, ap (λ (f : Figures). f .materials) (figures v), narrow (h (k v)))
-
--- refusal 7, in the definition's terms
-module _ (c : tie.After-check-bounds) where
-  abbrev v : tie.After-enum-told5
-  v = c .before .before .before .before .before
-
-  bounds : refusalOf (c .check-bounds .result) ≡ layoutRefusal (s (a (h (k v))))
-  bounds =
-      c .check-bounds .ensures
-      ∙ (λ j. crossedRefusal (figures v j .materials) (figures v j .least) (figures v j .most))
-      ∙ crossed-is (S v) (narrow (h (k v)))
-      ∙ sym (after-values (s (a (h (k v)))) (long (a (h (k v)))) (no-header (h (k v))) (no-keys (k v)) (no-values v))
-
-returns-5 : tie.Need-returns-5
-unfolding refusalOf
-returns-5 c =
-    let b = c .before .before .before in
-    let told = ap refusalOf (c .before .enum-told8 .given .1) in
-    turned-back (S (v b)) (b .check-bounds .result) (c .without-figures4 .ensures) told (sym (bounds b) ∙ told)
-
-returns-6 : tie.Need-returns-6
-unfolding refusalOf
-returns-6 c =
-    let b = c .before .before in
-    read-whole (S (v b)) (ap refusalOf (v b .enum-told5 .given .1)) (sym (bounds b) ∙ ap refusalOf (c .enum-told7 .given .1)) (figures (v b))
+    let k = c .before in
+    told-as (sheetOf (s (a (h k)))) (sym (after-keys (s (a (h k))) (long (a (h k))) (no-header (h k)) (no-keys k))) (c .read-figures .ensures)
 
 pub read-sheet-spec : {M : Type 1} → statement M
 read-sheet-spec =
@@ -165,13 +104,5 @@ read-sheet-spec =
     (search needs)
     (search needs)
     returns-3
-    read-entries-requires
-    (search needs)
-    (search needs)
-    returns-4
-    check-bounds-requires
-    (search needs)
-    (search needs)
-    (search needs)
-    returns-5
-    returns-6)
+    read-figures-requires
+    returns-4)

@@ -1,5 +1,5 @@
 -- Each arm stores in the array of its kind; what is asked says that place and value fit that array.
-use mathlib.Core.Path.{_≡_, refl, _∙_}
+use mathlib.Core.Path.{_≡_, refl}
 use lib.IntN.{ℤ}
 use mir.Syntax.{w16, w32}
 use mir.Val.{SFits, toZ, ofZ}

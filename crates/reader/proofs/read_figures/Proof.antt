@@ -1,0 +1,130 @@
+-- The arrays begin empty and end with the sheet's figures, unless a value or a least amount is refused.
+use mathlib.Core.Path.{_≡_, refl, sym, ap, _∙_}
+use mathlib.Core.List.{List}
+use mathlib.Core.Option.{none}
+use lib.IntN.{ℤ}
+use borrow.Author.Needs.{needs}
+use Rattle.rules.specs.declared.Kind.{Kind}
+use Rattle.rules.specs.declared.Kind.the-variants.{Cost, Least, Most, Coefficient, Bound}
+use Rattle.rules.specs.Sheet.{Sheet, sheetOf, problem}
+use Rattle.laws.specs.FirstPlace.{given, handed-on}
+use Rattle.figures.specs.Figures.{figuresOf}
+use Rattle.reader.specs.declared.Verdict.{Verdict}
+use Rattle.reader.specs.Reading.{refusalOf}
+use Rattle.reader.specs.Passes.{storedBy, roomOf, arrayAfter, valueRefusal, crossedRefusal, boundRefusal, figuresRefusal}
+use Rattle.reader.proofs.Header.{materials-is, limits-is, numerator-is, scale-is, steps-is, entries-is, in-range, narrow}
+use Rattle.reader.proofs.Stored.{arrayIn, none-stored, all-stored}
+use Rattle.reader.proofs.Chain.{crossed-is}
+use Rattle.reader.proofs.Outcome.{turned-back, read-whole}
+use Rattle.reader.proofs.read_figures.Statement.{statement}
+use Rattle.reader.proofs.read_figures.Tie as tie
+
+store-entries-requires : tie.Need-store-entries-requires
+unfolding roomOf
+store-entries-requires c κs =
+    let s = c .before .before .before .before .before .before in
+    let S = sheetOf (s .args .s .now) in
+    record {
+      keyed = s .pre;
+      empty = record {
+        costs = sym (none-stored S Cost);
+        leasts = sym (none-stored S Least);
+        mosts = sym (none-stored S Most);
+        coefficients = sym (none-stored S Coefficient);
+        bounds = sym (none-stored S Bound);
+      };
+    }
+
+module _ (c : tie.After-store-entries) where
+  abbrev start : tie.Start
+  start = c .before .before .before .before .before .before .before
+
+  abbrev S : Sheet
+  S = sheetOf (start .args .s .now)
+
+returns : tie.Need-returns
+unfolding refusalOf figuresRefusal
+returns c =
+    let a = c .before .before .before in
+    let told = ap refusalOf (c .before .enum-told2 .given .1) in
+    turned-back (S a) (a .store-entries .result) (c .without-figures .ensures) told (given _ (sym (a .store-entries .ensures .0) ∙ told))
+
+-- the values are good: the arrays hold all entries
+module _ (c : tie.After-enum-told) where
+  abbrev a : tie.After-store-entries
+  a = c .before .before
+
+  values : valueRefusal (S a) ≡ none
+  unfolding refusalOf
+  values = sym (a .store-entries .ensures .0) ∙ ap refusalOf (c .enum-told .given .1)
+
+  all : storedBy (a .store-entries .result) (start a .args .sizes .entries) ≡ S a .entries
+  unfolding storedBy
+  all = ap (λ (v : Verdict). storedBy v (start a .args .sizes .entries)) (c .enum-told .given .1) ∙ entries-is (start a .pre .headed)
+
+  -- the array of each kind is that of the figures
+  filled : (kind : Kind) {array : List ℤ} → array ≡ arrayAfter (S a) kind (storedBy (a .store-entries .result) (start a .args .sizes .entries))
+      → array ≡ arrayIn (figuresOf (problem (S a)) (S a .steps)) kind
+  filled kind e = e ∙ ap (arrayAfter (S a) kind) all ∙ all-stored (S a) kind
+
+check-bounds-requires : tie.Need-check-bounds-requires
+check-bounds-requires c κs = in-range (start (a (c .before .before)) .pre .headed) .narrow
+
+-- refusals 6 and 7, in the definition's terms
+module _ (c : tie.After-check-bounds) where
+  abbrev b : tie.After-enum-told
+  b = c .before .before .before
+
+  bounds : refusalOf (c .check-bounds .result) ≡ figuresRefusal (S (a b))
+  unfolding figuresRefusal figuresOf problem
+  bounds =
+      let h = start (a b) .pre .headed in
+      let stored = a b .store-entries .ensures .1 in
+      c .check-bounds .ensures
+      ∙ (λ j. crossedRefusal (materials-is h j) (filled b Least (stored .leasts) j) (filled b Most (stored .mosts) j))
+      ∙ crossed-is (S (a b)) (narrow h)
+      ∙ sym (handed-on (boundRefusal (S (a b))) (values b))
+
+returns-2 : tie.Need-returns-2
+unfolding refusalOf
+returns-2 c =
+    let k = c .before .before .before in
+    let told = ap refusalOf (c .before .enum-told4 .given .1) in
+    turned-back (S (a (b k))) (k .check-bounds .result) (c .without-figures2 .ensures) told (sym (bounds k) ∙ told)
+
+returns-3 : tie.Need-returns-3
+unfolding refusalOf figuresOf problem
+returns-3 c =
+    let k = c .before .before in
+    let h = start (a (b k)) .pre .headed in
+    let stored = a (b k) .store-entries .ensures .1 in
+    read-whole (S (a (b k))) refl (sym (bounds k) ∙ ap refusalOf (c .enum-told3 .given .1))
+    (λ j.
+    record {
+      materials = materials-is h j;
+      limits = limits-is h j;
+      numerator = numerator-is h j;
+      scale = scale-is h j;
+      steps = steps-is h j;
+      cost = filled (b k) Cost (stored .costs) j;
+      least = filled (b k) Least (stored .leasts) j;
+      most = filled (b k) Most (stored .mosts) j;
+      coefficient = filled (b k) Coefficient (stored .coefficients) j;
+      bound = filled (b k) Bound (stored .bounds) j;
+    })
+
+pub read-figures-spec : {M : Type 1} → statement M
+read-figures-spec =
+    tie.close
+    (tie.spec
+    store-entries-requires
+    (search needs)
+    (search needs)
+    (search needs)
+    returns
+    check-bounds-requires
+    (search needs)
+    (search needs)
+    (search needs)
+    returns-2
+    returns-3)
