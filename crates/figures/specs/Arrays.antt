@@ -1,13 +1,14 @@
 -- Arrays with more places than figures: the places without a figure hold 0.
 use mathlib.Core.Path.{_≡_, refl, sym, _∙_}
-use mathlib.Core.Bool.{Bool, true, false, cond, _&&_}
+use mathlib.Core.Bool.{Bool, true, false, cond, _&&_, and-false}
 use mathlib.Core.List.{List}
 use Prim.Native.Nat.{ℕ, _+_, _*_, _/_, _%_, _≤_, _<_}
+use native.Mathlib.Nat.{lt-of-lt-of-le}
 use native.Mathlib.Omega.{arith}
-use borrow.Author.Tests.{lt-ltb, le-ltb, eqb-true, eqb-false}
+use borrow.Author.Tests.{lt-ltb, le-ltb, ltb-true, ltb-false, eqb-true, eqb-false}
 use lib.Dec.{ltb, eqb}
 use lib.IntN.{ℤ, pos}
-use lib.ListN.{length, set, replicate, length-set, length-replicate, getD-replicate}
+use lib.ListN.{length, set, replicate, length-set, length-replicate, getD-replicate, List·getD-eq-default}
 use lib.Seq.{getD-set-same, getD-set-other, ext-getD}
 use Rattle.integer.specs.Vector.{at, tabulate, length-tabulate, at-tabulate, tabulate-cong}
 
@@ -29,54 +30,61 @@ module _ (room : ℕ) (here : ℕ → Bool) (f : ℕ → ℤ) where
   unfolding placed
   length-placed = length-tabulate room _
 
-  module _ (x : ℕ) (l : x < room) where
-    pub at-figure : here x ≡ true → at (placed room here f) x ≡ f x
+  module _ (x : ℕ) where
+    pub at-figure : x < room → here x ≡ true → at (placed room here f) x ≡ f x
     unfolding placed
-    at-figure h = rw (at-tabulate room (λ x. cond (here x) (f x) (pos 0)) x l, h)
+    at-figure l h = rw (at-tabulate room (λ x. cond (here x) (f x) (pos 0)) x l, h)
 
+    -- a place without a figure holds 0, and what lies past the array counts as 0
     pub at-empty : here x ≡ false → at (placed room here f) x ≡ pos 0
     unfolding placed
-    at-empty h = rw (at-tabulate room (λ x. cond (here x) (f x) (pos 0)) x l, h)
+    at-empty h = by (ltb x room) refl
+      where
+        by : (b : Bool) → ltb x room ≡ b → at (tabulate room (λ x. cond (here x) (f x) (pos 0))) x ≡ pos 0
+        by true l = rw (at-tabulate room (λ x. cond (here x) (f x) (pos 0)) x (ltb-true x room l), h)
+        by false l = List·getD-eq-default (tabulate room (λ x. cond (here x) (f x) (pos 0))) (pos 0) (rw length-tabulate (ltb-false x room l))
 
--- in a row of n figures
-module _ (room n : ℕ) (f : ℕ → ℤ) (j : ℕ) (l : j < room) where
-  pub at-row : j < n → at (row room n f) j ≡ f j
-  unfolding row
-  at-row h = at-figure room (λ x. ltb x n) f j l (lt-ltb j n h)
+-- ---- what a row, and what rows hold
+pub record RowHolds (n : ℕ) (f : ℕ → ℤ) (array : List ℤ) : Type 0 where
+  pub here : (j : ℕ) → j < n → at array j ≡ f j
+  pub past : (j : ℕ) → n ≤ j → at array j ≡ pos 0
 
-  pub at-row-rest : n ≤ j → at (row room n f) j ≡ pos 0
-  unfolding row
-  at-row-rest h = at-empty room (λ x. ltb x n) f j l (le-ltb j n h)
+pub record RowsHold (m n : ℕ) (f : ℕ → ℕ → ℤ) (array : List ℤ) : Type 0 where
+  pub here : (i j : ℕ) → i < m → j < n → at array (32 * i + j) ≡ f i j
+  pub below : (i j : ℕ) → m ≤ i → j < 32 → at array (32 * i + j) ≡ pos 0
+  pub beside : (i j : ℕ) → n ≤ j → j < 32 → at array (32 * i + j) ≡ pos 0
 
--- in m rows of n figures
-module _ (room m n : ℕ) (f : ℕ → ℕ → ℤ) (i j : ℕ) (l : i < room) (k : j < 32) where
-  -- the place gives the row and the column back
-  below : 32 * i + j < 32 * room
-  below = omega arith
+pub row-holds : (room n : ℕ) (f : ℕ → ℤ) → n ≤ room → RowHolds n f (row room n f)
+unfolding row
+row-holds room n f l = record {
+  here = λ j h. at-figure room (λ x. ltb x n) f j (lt-of-lt-of-le h l) (lt-ltb j n h);
+  past = λ j h. at-empty room (λ x. ltb x n) f j (le-ltb j n h);
+}
 
-  parts : ((32 * i + j) / 32 ≡ i) × ((32 * i + j) % 32 ≡ j)
-  parts = omega arith
+-- place 32·i + j is place j of row i
+row-parts : (i j : ℕ) → j < 32 → ((32 * i + j) / 32 ≡ i) × ((32 * i + j) % 32 ≡ j)
+row-parts i j l = omega arith
 
-  abbrev here : ℕ → Bool
-  here x = ltb (x / 32) m && ltb (x % 32) n
+module _ (room m n : ℕ) (f : ℕ → ℕ → ℤ) (few : m ≤ room) (narrow : n ≤ 32) where
+  abbrev figure : ℕ → Bool
+  figure x = ltb (x / 32) m && ltb (x % 32) n
 
-  pub at-rows : i < m → j < n → at (rows room m n f) (32 * i + j) ≡ f i j
+  abbrev value : ℕ → ℤ
+  value x = f (x / 32) (x % 32)
+
+  rows-here : (i j : ℕ) → i < m → j < n → at (rows room m n f) (32 * i + j) ≡ f i j
   unfolding rows
-  at-rows p q =
-      at-figure (32 * room) here (λ x. f (x / 32) (x % 32)) (32 * i + j) below (rw (parts .0, parts .1, lt-ltb i m p, lt-ltb j n q))
-      ∙ rw (parts .0, parts .1)
+  rows-here i j p q =
+      let (r, c) = row-parts i j (lt-of-lt-of-le q narrow) in
+      at-figure (32 * room) figure value (32 * i + j) (omega arith) (rw (r, c, lt-ltb i m p, lt-ltb j n q)) ∙ rw (r, c)
 
-  pub at-rows-below : m ≤ i → at (rows room m n f) (32 * i + j) ≡ pos 0
+  pub rows-hold : RowsHold m n f (rows room m n f)
   unfolding rows
-  at-rows-below p = at-empty (32 * room) here (λ x. f (x / 32) (x % 32)) (32 * i + j) below (rw (parts .0, le-ltb i m p))
-
-  pub at-rows-beside : n ≤ j → at (rows room m n f) (32 * i + j) ≡ pos 0
-  unfolding rows
-  at-rows-beside q = at-empty (32 * room) here (λ x. f (x / 32) (x % 32)) (32 * i + j) below (rw (parts .1, le-ltb j n q) (and-false (ltb ((32 * i + j) / 32) m)))
-    where
-      and-false : (b : Bool) → b && false ≡ false
-      and-false true = refl
-      and-false false = refl
+  rows-hold = record {
+    here = rows-here;
+    below = λ i j p l. at-empty (32 * room) figure value (32 * i + j) (rw (row-parts i j l .0, le-ltb i m p));
+    beside = λ i j q l. at-empty (32 * room) figure value (32 * i + j) (rw (row-parts i j l .1, le-ltb j n q, and-false));
+  }
 
 -- ---- storing a figure
 module _ (room : ℕ) (here : ℕ → Bool) (f g : ℕ → ℤ) where
@@ -104,7 +112,7 @@ module _ (room : ℕ) (here : ℕ → Bool) (f g : ℕ → ℤ) where
           ∙ at-figure room here f y k q ∙ others y k q (eqb-false y x e) ∙ sym (at-figure room here g y k q)
       by y k false e false q =
           getD-set-other (placed room here f) x y (g x) (pos 0) (eqb-false y x e)
-          ∙ at-empty room here f y k q ∙ sym (at-empty room here g y k q)
+          ∙ at-empty room here f y q ∙ sym (at-empty room here g y q)
 
 -- no figure yet: every place holds 0
 pub placed-zero : (room : ℕ) (here : ℕ → Bool) → placed room here (λ x. pos 0) ≡ replicate room (pos 0)
@@ -114,4 +122,4 @@ placed-zero room here =
   where
     by : (x : ℕ) → x < room → (b : Bool) → here x ≡ b → at (placed room here (λ x. pos 0)) x ≡ at (replicate room (pos 0)) x
     by x l true h = at-figure room here (λ x. pos 0) x l h ∙ sym (getD-replicate room x (pos 0) (pos 0) l)
-    by x l false h = at-empty room here (λ x. pos 0) x l h ∙ sym (getD-replicate room x (pos 0) (pos 0) l)
+    by x l false h = at-empty room here (λ x. pos 0) x h ∙ sym (getD-replicate room x (pos 0) (pos 0) l)

@@ -1,25 +1,25 @@
--- The arrays of a problem with k steps.
-use Prim.Native.Nat.{ℕ}
+-- The arrays of a problem with k steps, and what stands at each place.
+use Prim.Native.Nat.{ℕ, _≤_}
 use lib.IntN.{pos}
 use lib.ListN.{replicate}
 use Rattle.rules.specs.Problem.{Problem}
 use Rattle.figures.specs.declared.Figures.{Figures}
-use Rattle.figures.specs.Arrays.{row, rows}
+use Rattle.figures.specs.Arrays.{RowHolds, RowsHold, row, rows, row-holds, rows-hold}
 
-module _ (P : Problem) (k : ℕ) where
-  unfoldable pub figuresOf : Figures
-  figuresOf = record {
-    materials = P .materials;
-    limits = P .limits;
-    numerator = P .numerator;
-    scale = P .scale;
-    steps = k;
-    cost = row 32 (P .materials) (P .cost);
-    least = row 32 (P .materials) (P .least);
-    most = row 32 (P .materials) (P .most);
-    coefficient = rows 16 (P .limits) (P .materials) (P .coefficient);
-    bound = row 16 (P .limits) (P .bound);
-  }
+-- the figures of a problem in arrays of 32 and 16 places, and of 16 rows of 32
+unfoldable pub figuresOf : Problem → ℕ → Figures
+figuresOf P k = record {
+  materials = P .materials;
+  limits = P .limits;
+  numerator = P .numerator;
+  scale = P .scale;
+  steps = k;
+  cost = row 32 (P .materials) (P .cost);
+  least = row 32 (P .materials) (P .least);
+  most = row 32 (P .materials) (P .most);
+  coefficient = rows 16 (P .limits) (P .materials) (P .coefficient);
+  bound = row 16 (P .limits) (P .bound);
+}
 
 -- no figures: every size and every place is 0
 unfoldable pub noFigures : Figures
@@ -34,4 +34,22 @@ noFigures = record {
   most = replicate 32 (pos 0);
   coefficient = replicate 512 (pos 0);
   bound = replicate 16 (pos 0);
+}
+
+-- Each figure stands at its place, and every place past n and m holds 0.
+pub record Holds (P : Problem) (F : Figures) : Type 0 where
+  pub costs : RowHolds (P .materials) (P .cost) (F .cost)
+  pub leasts : RowHolds (P .materials) (P .least) (F .least)
+  pub mosts : RowHolds (P .materials) (P .most) (F .most)
+  pub coefficients : RowsHold (P .limits) (P .materials) (P .coefficient) (F .coefficient)
+  pub bounds : RowHolds (P .limits) (P .bound) (F .bound)
+
+pub figures-hold : (P : Problem) (k : ℕ) → P .materials ≤ 32 → P .limits ≤ 16 → Holds P (figuresOf P k)
+unfolding figuresOf
+figures-hold P k narrow few = record {
+  costs = row-holds 32 (P .materials) (P .cost) narrow;
+  leasts = row-holds 32 (P .materials) (P .least) narrow;
+  mosts = row-holds 32 (P .materials) (P .most) narrow;
+  coefficients = rows-hold 16 (P .limits) (P .materials) (P .coefficient) few narrow;
+  bounds = row-holds 16 (P .limits) (P .bound) few;
 }

@@ -4,28 +4,29 @@ use mathlib.Core.Bool.{true}
 use mathlib.Core.List.{List}
 use mathlib.Core.Option.{none, some}
 use Prim.Native.Nat.{ℕ, _<_, _≤_}
-use native.Mathlib.Nat.{lt-of-lt-of-le}
 use borrow.Author.Tests.{lt-ltb, le-ltb, eqb-true, not-false}
 use lib.ListN.{length}
 use lib.Signed.{ltZ}
 use Rattle.rules.specs.Sheet.{Sheet, sheetOf, sheetLength, problem}
 use Rattle.rules.specs.Ranges.{dimensionsInRange}
 use Rattle.rules.specs.Refusals.{refuse, _otherwise_, crossed, layoutRefusal}
+use Rattle.laws.specs.Sizes.{dimensions}
 use Rattle.laws.specs.NotRefused.{otherwise-none, refuse-false}
 use Rattle.laws.specs.FirstPlace.{refuse-yes, refuse-no, given, handed-on, regrouped, first-cong}
-use Rattle.figures.specs.Arrays.{at-row}
-use Rattle.figures.specs.Figures.{figuresOf}
+use Rattle.figures.specs.Arrays.{row-holds}
+use Rattle.figures.specs.Figures.{figuresOf, figures-hold}
+use Rattle.reader.specs.declared.Reading.{Reading}
 use Rattle.reader.specs.declared.Sizes.{Sizes}
+use Rattle.reader.specs.Reading.{figuresUnless, Reads, ReadsAs}
 use Rattle.reader.specs.Passes.{sizesOf, headerRefusal, keyRefusal, valueRefusal, crossedRefusal, boundRefusal, figuresRefusal}
 
 -- the arrays of the figures say the same
 pub crossed-is : (S : Sheet) → S .materials ≤ 32 → let F = figuresOf (problem S) (S .steps) in crossedRefusal (F .materials) (F .least) (F .most) ≡ boundRefusal S
 unfolding crossedRefusal boundRefusal crossed figuresOf problem
 crossed-is S narrow =
-    first-cong (S .materials) _ _
-    (λ j l.
-    let k = lt-of-lt-of-le l narrow in
-    λ i. refuse 7 j (ltZ (at-row 32 (S .materials) (problem S .most) j k l i) (at-row 32 (S .materials) (problem S .least) j k l i)))
+    let most = row-holds 32 (S .materials) (problem S .most) narrow in
+    let least = row-holds 32 (S .materials) (problem S .least) narrow in
+    first-cong (S .materials) _ _ (λ j l. λ i. refuse 7 j (ltZ (most .here j l i) (least .here j l i)))
 
 module _ (s : List ℕ) where
   abbrev S : Sheet
@@ -55,3 +56,18 @@ module _ (long : ℕ) (z : Sizes) where
       let (dimensions, h) = otherwise-none _ _ h in
       let (length, parameters) = otherwise-none _ _ h in
       (not-false _ (refuse-false 2 0 _ dimensions), eqb-true _ _ (not-false _ (refuse-false 3 0 _ length)))
+
+-- ---- a reading of the sheet has each figure at its place
+pub placed : (s : List ℕ) {r : Reading} → ReadsAs (sheetOf s) (layoutRefusal s) r → Reads s r
+unfolding layoutRefusal figuresUnless problem
+placed s {r} reading = record {
+  verdict = reading .verdict;
+  figures = reading .figures;
+  places =
+      λ h.
+      let S = sheetOf s in
+      let (short, rest) = otherwise-none _ _ h in
+      let (header, later) = otherwise-none _ _ rest in
+      let d = dimensions (S .materials) (S .limits) (S .entries) (not-false _ (refuse-false 2 0 _ header)) in
+      rw (reading .figures, h) (figures-hold (problem S) (S .steps) (d .narrow) (d .few));
+}

@@ -6,7 +6,7 @@ use Prim.Native.Nat.{ℕ}
 use Rattle.rules.specs.Sheet.{Sheet, sheetOf, problem}
 use Rattle.rules.specs.Refusals.{Numbered, numbered, layoutRefusal}
 use Rattle.figures.specs.declared.Figures.{Figures}
-use Rattle.figures.specs.Figures.{figuresOf, noFigures}
+use Rattle.figures.specs.Figures.{Holds, figuresOf, noFigures}
 use Rattle.reader.specs.declared.Verdict.{Verdict}
 use Rattle.reader.specs.declared.Verdict.the-variants.{Accepted, Refused}
 use Rattle.reader.specs.declared.Reading.{Reading}
@@ -21,14 +21,16 @@ unfoldable pub figuresUnless : Option Numbered → Sheet → Figures
 figuresUnless none S = figuresOf (problem S) (S .steps)
 figuresUnless (some r) S = noFigures
 
--- a reading of S that ends with the given refusal, or with none
+-- The reading of a sheet's bytes: its refusal, its figures, and where each stands.
+pub record Reads (s : List ℕ) (r : Reading) : Type 0 where
+  pub verdict : refusalOf (r .verdict) ≡ layoutRefusal s
+  pub figures : r .figures ≡ figuresUnless (layoutRefusal s) (sheetOf s)
+  pub places : layoutRefusal s ≡ none → Holds (problem (sheetOf s)) (r .figures)
+
+-- a reading of S that ends with this refusal, or with none
 pub record ReadsAs (S : Sheet) (refusal : Option Numbered) (r : Reading) : Type 0 where
   pub verdict : refusalOf (r .verdict) ≡ refusal
   pub figures : r .figures ≡ figuresUnless refusal S
-
--- The reading of a sheet's bytes.
-abbrev pub Reads : List ℕ → Reading → Type 0
-Reads s r = ReadsAs (sheetOf s) (layoutRefusal s) r
 
 -- a verdict with no figures beside it
 unfoldable pub withoutFigures : Verdict → Reading

@@ -154,10 +154,10 @@ fn check_keys(s: &[u8], sizes: Sizes) -> Verdict
 {
     let n = sizes.materials;
     let m = sizes.limits;
-    let e = sizes.entries;
+    let count = sizes.entries;
     let mut before: usize = 0;
     let mut i: usize = 0;
-    while i < e {
+    while i < count {
         let read = read_key(s, n, m, i, before);
         let Key::Good(key) = read else {
             return refused(i, Cause::Key);

@@ -12,18 +12,12 @@ use Rattle.reader.proofs.Header.{refused-2, refused-3, refused-4, passe
 use Rattle.reader.proofs.check_header.Statement.{statement}
 use Rattle.reader.proofs.check_header.Tie as tie
 
-dimensions-in-range-requires : tie.Need-dimensions-in-range-requires
-dimensions-in-range-requires c κs = search needs
-
 -- what the tests say
 out-2 : (c : tie.Then1) → let z = c .before .before .args .sizes in dimensionsInRange (z .materials) (z .limits) (z .entries) ≡ false
 out-2 c = sym (c .before .dimensions-in-range .ensures) ∙ not-true _ (c .if1 .taken)
 
 in-2 : (c : tie.Else1) → let z = c .before .before .args .sizes in dimensionsInRange (z .materials) (z .limits) (z .entries) ≡ true
 in-2 c = sym (c .before .dimensions-in-range .ensures) ∙ not-false _ (c .if1 .left)
-
-refused-requires : tie.Need-refused-requires
-refused-requires c κs = search needs
 
 returns : tie.Need-returns
 unfolding refusalOf numbered numberOf
@@ -37,21 +31,12 @@ mul-if2 c = let d = dimensions _ _ _ (in-2 c) in record { fits = omega arith }
 add-if2 : tie.Need-add-if2
 add-if2 c = let d = dimensions _ _ _ (in-2 c) in record { fits = omega arith }
 
-refused-requires-2 : tie.Need-refused-requires-2
-refused-requires-2 c κs = search needs
-
 returns-2 : tie.Need-returns-2
 unfolding refusalOf numbered numberOf
 returns-2 c =
     let b = c .before .before in
     let a = b .before .before .args in
     ap refusalOf (c .refused2 .ensures) ∙ sym (refused-3 (a .length) (a .sizes) (in-2 b) (c .before .if2 .taken))
-
-parameters-in-range-requires : tie.Need-parameters-in-range-requires
-parameters-in-range-requires c κs = search needs
-
-refused-requires-3 : tie.Need-refused-requires-3
-refused-requires-3 c κs = search needs
 
 returns-3 : tie.Need-returns-3
 unfolding refusalOf numbered numberOf
@@ -74,14 +59,14 @@ pub check-header-spec : {M : Type 1} → statement M
 check-header-spec =
     tie.close
     (tie.spec
-    dimensions-in-range-requires
-    refused-requires
+    (search needs)
+    (search needs)
     returns
     mul-if2
     add-if2
-    refused-requires-2
+    (search needs)
     returns-2
-    parameters-in-range-requires
-    refused-requires-3
+    (search needs)
+    (search needs)
     returns-3
     returns-4)

@@ -1,3 +1,4 @@
+-- The record is the definition's.
 use mathlib.Core.Path.{refl}
 use Rattle.figures.specs.Figures.{noFigures}
 use Rattle.reader.proofs.no_figures.Statement.{statement}

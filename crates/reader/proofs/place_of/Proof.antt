@@ -1,3 +1,4 @@
+-- Each arm is told the kind; a limit's figures stand from row 3 on, so that nothing wraps.
 use mathlib.Core.Path.{_≡_}
 use Prim.Native.Nat.{ℕ, _≤_}
 use native.Mathlib.Omega.{arith}
@@ -12,30 +13,9 @@ use Rattle.reader.proofs.place_of.Tie as tie
 from : {kind : Kind} {row column : ℕ} (this : Kind) → kind ≡ this → RowOf kind row column → firstRow this ≤ row
 from this e h = rw e at (h .from)
 
-enum-told : tie.Need-enum-told
-enum-told c = search needs
-
-enum-told-2 : tie.Need-enum-told-2
-enum-told-2 c = search needs
-
-enum-told-3 : tie.Need-enum-told-3
-enum-told-3 c = search needs
-
-enum-told-4 : tie.Need-enum-told-4
-enum-told-4 c = search needs
-
 sub-result : tie.Need-sub-result
 unfolding firstRow
 sub-result c = let h = from Coefficient (c .enum-told4 .given .1) (c .before .before .pre) in omega arith
-
-mul-result : tie.Need-mul-result
-mul-result c = search needs
-
-add-result : tie.Need-add-result
-add-result c = search needs
-
-enum-told-5 : tie.Need-enum-told-5
-enum-told-5 c = search needs
 
 sub-result-2 : tie.Need-sub-result-2
 unfolding firstRow
@@ -65,14 +45,14 @@ pub place-of-spec : {M : Type 1} → statement M
 place-of-spec =
     tie.close
     (tie.spec
-    enum-told
-    enum-told-2
-    enum-told-3
-    enum-told-4
+    (search needs)
+    (search needs)
+    (search needs)
+    (search needs)
     sub-result
-    mul-result
-    add-result
-    enum-told-5
+    (search needs)
+    (search needs)
+    (search needs)
     sub-result-2
     returns
     returns-2

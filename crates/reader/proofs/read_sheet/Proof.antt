@@ -11,7 +11,7 @@ use Rattle.laws.specs.Sizes.{dimensions}
 use Rattle.laws.specs.FirstPlace.{given}
 use Rattle.reader.specs.Reading.{refusalOf}
 use Rattle.reader.specs.Passes.{Headed, sizesOf, headerRefusal, keyRefusal}
-use Rattle.reader.proofs.Chain.{short, after-short, after-header, after-keys, header-says}
+use Rattle.reader.proofs.Chain.{placed, short, after-short, after-header, after-keys, header-says}
 use Rattle.reader.proofs.Outcome.{turned-back, told-as}
 use Rattle.reader.proofs.read_sheet.Statement.{statement}
 use Rattle.reader.proofs.read_sheet.Tie as tie
@@ -20,7 +20,9 @@ returns : tie.Need-returns
 unfolding refusalOf numbered numberOf
 returns c =
     let s = c .before .before .before .before .args .s .now in
-    turned-back (sheetOf s) (c .before .refused .result) (c .without-figures .ensures) (ap refusalOf (c .before .refused .ensures)) (short s (c .before .before .if1 .taken))
+    placed s
+    (turned-back (sheetOf s) (c .before .refused .result) (c .without-figures .ensures) (ap refusalOf (c .before .refused .ensures))
+    (short s (c .before .before .if1 .taken)))
 
 -- after refusals 2 to 4
 module _ (c : tie.After-check-header) where
@@ -38,8 +40,9 @@ unfolding refusalOf
 returns-2 c =
     let a = c .before .before .before in
     let told = ap refusalOf (c .before .enum-told2 .given .1) in
-    turned-back (sheetOf (s a)) (a .check-header .result) (c .without-figures2 .ensures) told
-    (after-short (s a) (long a) ∙ given _ (sym (header a) ∙ told))
+    placed (s a)
+    (turned-back (sheetOf (s a)) (a .check-header .result) (c .without-figures2 .ensures) told
+    (after-short (s a) (long a) ∙ given _ (sym (header a) ∙ told)))
 
 -- the header is passed
 module _ (c : tie.After-enum-told) where
@@ -66,8 +69,9 @@ returns-3 c =
     let k = c .before .before .before in
     let h = k .before in
     let told = ap refusalOf (c .before .enum-told4 .given .1) in
-    turned-back (sheetOf (s (a h))) (k .check-keys .result) (c .without-figures3 .ensures) told
-    (after-header (s (a h)) (long (a h)) (no-header h) ∙ given _ (sym (k .check-keys .ensures) ∙ told))
+    placed (s (a h))
+    (turned-back (sheetOf (s (a h))) (k .check-keys .result) (c .without-figures3 .ensures) told
+    (after-header (s (a h)) (long (a h)) (no-header h) ∙ given _ (sym (k .check-keys .ensures) ∙ told)))
 
 -- the keys are passed
 module _ (c : tie.After-enum-told3) where
@@ -84,7 +88,8 @@ read-figures-requires c κs = record { headed = headed (h c); keys = no-keys c }
 returns-4 : tie.Need-returns-4
 returns-4 c =
     let k = c .before in
-    told-as (sheetOf (s (a (h k)))) (sym (after-keys (s (a (h k))) (long (a (h k))) (no-header (h k)) (no-keys k))) (c .read-figures .ensures)
+    let t = s (a (h k)) in
+    placed t (told-as (sheetOf t) (sym (after-keys t (long (a (h k))) (no-header (h k)) (no-keys k))) (c .read-figures .ensures))
 
 pub read-sheet-spec : {M : Type 1} → statement M
 read-sheet-spec =

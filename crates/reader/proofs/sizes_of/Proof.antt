@@ -1,25 +1,8 @@
+-- Six numbers of 2 bytes, one after the other.
 use borrow.Author.Needs.{needs}
 use Rattle.reader.specs.Passes.{sizesOf}
 use Rattle.reader.proofs.sizes_of.Statement.{statement}
 use Rattle.reader.proofs.sizes_of.Tie as tie
-
-size-at-requires : tie.Need-size-at-requires
-size-at-requires c κs = search needs
-
-size-at-requires-2 : tie.Need-size-at-requires-2
-size-at-requires-2 c κs = search needs
-
-size-at-requires-3 : tie.Need-size-at-requires-3
-size-at-requires-3 c κs = search needs
-
-size-at-requires-4 : tie.Need-size-at-requires-4
-size-at-requires-4 c κs = search needs
-
-size-at-requires-5 : tie.Need-size-at-requires-5
-size-at-requires-5 c κs = search needs
-
-size-at-requires-6 : tie.Need-size-at-requires-6
-size-at-requires-6 c κs = search needs
 
 returns : tie.Need-returns
 unfolding sizesOf
@@ -42,10 +25,10 @@ pub sizes-of-spec : {M : Type 1} → statement M
 sizes-of-spec =
     tie.close
     (tie.spec
-    size-at-requires
-    size-at-requires-2
-    size-at-requires-3
-    size-at-requires-4
-    size-at-requires-5
-    size-at-requires-6
+    (search needs)
+    (search needs)
+    (search needs)
+    (search needs)
+    (search needs)
+    (search needs)
     returns)

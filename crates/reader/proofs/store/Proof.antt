@@ -21,9 +21,6 @@ known this e h = rw e at h
 cast-kept : {v : ℤ} → SFits w32 v → SFits w16 v → toZ w16 (ofZ w16 (toZ w32 (ofZ w32 v))) ≡ v
 cast-kept f g = simp (toZ-ofZ f, toZ-ofZ g)
 
-enum-told : tie.Need-enum-told
-enum-told c = search needs
-
 cast-cost : tie.Need-cast-cost
 unfolding widthOf
 cast-cost c =
@@ -37,9 +34,6 @@ mul-t10 c = let h = known Cost (c .enum-told .given .1) (c .before .before .pre)
 element-set-from-cost : tie.Need-element-set-from-cost
 unfolding roomOf
 element-set-from-cost c = known Cost (c .enum-told .given .1) (c .before .before .pre) .below
-
-enum-told-2 : tie.Need-enum-told-2
-enum-told-2 c = search needs
 
 cast-least : tie.Need-cast-least
 unfolding widthOf
@@ -55,9 +49,6 @@ element-set-from-least : tie.Need-element-set-from-least
 unfolding roomOf
 element-set-from-least c = known Least (c .enum-told2 .given .1) (c .before .before .pre) .below
 
-enum-told-3 : tie.Need-enum-told-3
-enum-told-3 c = search needs
-
 cast-most : tie.Need-cast-most
 unfolding widthOf
 cast-most c =
@@ -72,9 +63,6 @@ element-set-from-most : tie.Need-element-set-from-most
 unfolding roomOf
 element-set-from-most c = known Most (c .enum-told3 .given .1) (c .before .before .pre) .below
 
-enum-told-4 : tie.Need-enum-told-4
-enum-told-4 c = search needs
-
 cast-coefficient : tie.Need-cast-coefficient
 unfolding widthOf
 cast-coefficient c =
@@ -88,9 +76,6 @@ mul-t22 c = let h = known Coefficient (c .enum-told4 .given .1) (c .before .befo
 element-set-from-coefficient : tie.Need-element-set-from-coefficient
 unfolding roomOf
 element-set-from-coefficient c = known Coefficient (c .enum-told4 .given .1) (c .before .before .pre) .below
-
-enum-told-5 : tie.Need-enum-told-5
-enum-told-5 c = search needs
 
 mul-value : tie.Need-mul-value
 unfolding roomOf
@@ -136,23 +121,23 @@ pub store-spec : {M : Type 1} → statement M
 store-spec =
     tie.close
     (tie.spec
-    enum-told
+    (search needs)
     cast-cost
     mul-t10
     element-set-from-cost
-    enum-told-2
+    (search needs)
     cast-least
     mul-t14
     element-set-from-least
-    enum-told-3
+    (search needs)
     cast-most
     mul-t18
     element-set-from-most
-    enum-told-4
+    (search needs)
     cast-coefficient
     mul-t22
     element-set-from-coefficient
-    enum-told-5
+    (search needs)
     mul-value
     element-set-from-value
     returns
