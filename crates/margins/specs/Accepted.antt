@@ -20,7 +20,7 @@ use Rattle.rules.specs.Sheet.{Sheet, sheetOf, rowOf, columnOf, valueUnder, figu
 use Rattle.rules.specs.Ranges.{neg, _to_, ranges, indexOf, rangeOf, kindAt, inRange, between, dimensionsInRange, parametersInRange}
 use Rattle.rules.specs.Run.{startingMultiplier}
 use Rattle.rules.specs.Refusals.{badValue, crossed, layoutRefusal}
-use Rattle.laws.specs.Keys.{key-parts, coefficient-kind, bound-kind}
+use Rattle.laws.specs.Entries.{key-parts, coefficient-kind, bound-kind}
 use Rattle.laws.specs.NotRefused.{otherwise-none, refuse-none, first-none}
 
 -- The ranges of a problem and of its step count k.

@@ -2,7 +2,7 @@
 ghost use mathlib.Core.Path.{_≡_};
 ghost use Prim.Native.Nat.{_<_};
 ghost use Rattle.rules.specs.Bytes.{unsignedAt, signedAt};
-ghost use Rattle.numbers.specs.Inside.{Inside, signedOf};
+ghost use Rattle.numbers.specs.Inside.{Inside, Size, signedOf};
 
 // A byte in 16 bits.
 fn wide_16(b: u8) -> u16
@@ -19,6 +19,14 @@ pub fn unsigned_16(s: &[u8], at: usize) -> u16
     let low = wide_16(s[at]);
     let high = wide_16(s[at + 1]);
     low + 256 * high
+}
+
+// The same number as a size, a count or a place.
+pub fn size_at(s: &[u8], at: usize) -> usize
+    requires { ⌜ Inside 2 (now s) at ⌝ }
+    ensures { λ r. ⌜ Size (now (s .entry)) at r ⌝ }
+{
+    unsigned_16(s, at) as usize
 }
 
 // The unsigned number in the 4 bytes from place `at` on.

@@ -9,7 +9,7 @@ use borrow.Author.Tests.{eq-eqb, ne-eqb}
 use Rattle.rules.specs.Sheet.{sheetOf, sheetLength, rowOf, columnOf}
 use Rattle.rules.specs.Ranges.{dimensionsInRange, parametersInRange}
 use Rattle.rules.specs.Refusals.{refuse, _otherwise_, noFigureAt, badKey}
-use Rattle.laws.specs.Keys.{good-key}
+use Rattle.laws.specs.Entries.{good-key}
 use Rattle.laws.specs.Sizes.{Dimensions, dimensions}
 use Rattle.laws.specs.NotRefused.{refuse-false, first-none}
 use Rattle.reader.specs.declared.Sizes.{Sizes}

@@ -1,6 +1,11 @@
-pub mod Stored
+-- What the proofs share.
+--   Header    refusals 2 to 4, and what a sheet that passed them has
+--   Chain     the chain of refusals 1 to 7, as the passes hand it on
+--   Outcome   a reading that ends with a refusal, and one that ends with none
+--   Places    where the figures of each kind stand in its array
+--   Stored    the arrays while the entries are stored
 pub mod Header
-pub mod KeyRead
-pub mod EntryRead
-pub mod Outcome
 pub mod Chain
+pub mod Outcome
+pub mod Places
+pub mod Stored

@@ -1,109 +1,30 @@
 -- The arrays while the entries are read: after e entries, the array of a kind holds what the first e entries say, and one entry more changes
 -- one place of one array.
 use mathlib.Core.Path.{_≡_, refl, sym, ap, _∙_, transport}
-use mathlib.Core.Bool.{Bool, true, false, not, cond, _&&_, _||_}
+use mathlib.Core.Bool.{Bool, true, false, cond}
 use mathlib.Core.List.{List}
-use Prim.Native.Nat.{ℕ, zero, suc, _+_, _-_, _*_, _/_, _%_, _<_, _≤_}
+use Prim.Native.Nat.{ℕ, zero, suc, _+_, _*_, _≤_}
 use native.Mathlib.Omega.{arith}
 use native.Mathlib.Numerals.{add-one}
-use borrow.Author.Tests.{lt-ltb, ltb-true, eqb-true, eqb-false, eq-eqb, ne-eqb, not-false}
-use lib.Dec.{T, ltb, eqb, lit<}
-use lib.IntN.{ℤ, pos, natAbs}
-use lib.Signed.{_≤ℤ_, leZ-yes}
-use lib.Ieee.Fits.{and-l, and-r}
+use borrow.Author.Tests.{eqb-true, eqb-false, eq-eqb, ne-eqb}
+use lib.Dec.{eqb}
+use lib.IntN.{ℤ, pos}
 use lib.ListN.{set, replicate}
-use mir.Val.{SFits}
-use Rattle.integer.specs.Range.{sfits-between}
 use Rattle.rules.specs.declared.Kind.{Kind}
 use Rattle.rules.specs.declared.Kind.the-variants.{Cost, Least, Most, Coefficient, Bound}
-use Rattle.rules.specs.Sheet.{Sheet, rowOf, columnOf, valueUnder, figure, problem}
-use Rattle.rules.specs.Ranges.{indexOf, kindAt, ranges, rangeOf, inRange}
+use Rattle.rules.specs.Sheet.{Sheet, valueUnder, figure, problem}
+use Rattle.rules.specs.Ranges.{indexOf}
 use Rattle.rules.specs.Refusals.{badValue}
-use Rattle.laws.specs.Keys.{FigureAt, key-parts, parts-key, coefficient-kind, bound-kind}
+use Rattle.laws.specs.Entries.{FigureAt, key-parts, parts-key, good-value}
 use Rattle.figures.specs.Arrays.{placed-cong, placed-set, placed-zero}
 use Rattle.figures.specs.declared.Figures.{Figures}
 use Rattle.figures.specs.Figures.{figuresOf}
 use Rattle.figures.specs.Arrays as figures
-use Rattle.reader.specs.declared.Entry.the-variants.{Figure}
-use Rattle.reader.specs.Passes.{Storable, entryRead, placeOf, roomOf, widthOf, hasFigure, rowAt, columnAt, arrayAfter, storeIf}
-use Rattle.reader.proofs.EntryRead.{Figured, figure-says}
-
--- ---- a place gives a row and a column, and they give the kind and the place back
-record Back (n : ℕ) (kind : Kind) (x : ℕ) : Type 0 where
-  same-kind : kindAt n (rowAt kind x) (columnAt n kind x) ≡ kind
-  same-place : placeOf kind (rowAt kind x) (columnAt n kind x) ≡ x
-  column-in : columnAt n kind x ≤ n
-
-both : (a b : Bool) → a && b ≡ true → (a ≡ true) × (b ≡ true)
-both true b h = (refl, h)
-both false b h = let z : _≡_ {A = ℕ} 0 1 = cc in absurd (omega arith)
-
-back : (n m : ℕ) (kind : Kind) (x : ℕ) → hasFigure n m kind x ≡ true → Back n kind x
-unfolding hasFigure rowAt columnAt kindAt placeOf
-back n m Cost x h = let l = ltb-true x n h in record { same-kind = refl; same-place = refl; column-in = omega arith }
-back n m Least x h = let l = ltb-true x n h in record { same-kind = refl; same-place = refl; column-in = omega arith }
-back n m Most x h = let l = ltb-true x n h in record { same-kind = refl; same-place = refl; column-in = omega arith }
-back n m Coefficient x h =
-    let (_, l) = both (ltb (x / 32) m) (ltb (x % 32) n) h in
-    let k = ltb-true (x % 32) n l in
-    record { same-kind = coefficient-kind n (x / 32) (x % 32) k; same-place = omega arith; column-in = omega arith }
-back n m Bound x h = record { same-kind = bound-kind n x; same-place = omega arith; column-in = omega arith }
-
--- ---- a row and a column that have a figure give its place, and it gives them back
-record There (n m row column : ℕ) (kind : Kind) : Type 0 where
-  below : placeOf kind row column < roomOf kind
-  figure : hasFigure n m kind (placeOf kind row column) ≡ true
-  same-row : rowAt kind (placeOf kind row column) ≡ row
-  same-column : columnAt n kind (placeOf kind row column) ≡ column
-
--- place 32·i + j is place j of row i
-row-parts : (i j : ℕ) → j < 32 → ((32 * (suc (suc (suc i)) - 3) + j) / 32 ≡ i) × ((32 * (suc (suc (suc i)) - 3) + j) % 32 ≡ j)
-row-parts i j l = omega arith
-
-there : (n m row column : ℕ) → n ≤ 32 → m ≤ 16 → FigureAt n m row column → There n m row column (kindAt n row column)
-unfolding hasFigure rowAt columnAt kindAt placeOf roomOf
-there n m zero column narrow few h =
-    let l = h .material (omega arith) in
-    record { below = omega arith; figure = lt-ltb column n l; same-row = refl; same-column = refl }
-there n m (suc zero) column narrow few h =
-    let l = h .material (omega arith) in
-    record { below = omega arith; figure = lt-ltb column n l; same-row = refl; same-column = refl }
-there n m (suc (suc zero)) column narrow few h =
-    let l = h .material (omega arith) in
-    record { below = omega arith; figure = lt-ltb column n l; same-row = refl; same-column = refl }
-there n m (suc (suc (suc i))) column narrow few h = by (eqb column n) refl
-  where
-    by : (b : Bool) → eqb column n ≡ b → There n m (suc (suc (suc i))) column (cond b Bound Coefficient)
-    by true e = record { below = omega arith; figure = lt-ltb _ m (omega arith); same-row = omega arith; same-column = sym (eqb-true column n e) }
-    by false e =
-        let l : column < n = omega (arith, eqb-false column n e) in
-        let (q, r) = row-parts i column (omega arith) in
-        record { below = omega arith; figure = rw (q, r, lt-ltb i m (omega arith), lt-ltb column n l); same-row = ap (λ x. 3 + x) q ∙ omega arith; same-column = r }
-
--- ---- a value in the range of its kind fits the width of its array
-ends-fit : (kind : Kind) → SFits (widthOf kind) (rangeOf kind .least) × SFits (widthOf kind) (rangeOf kind .greatest)
-unfolding rangeOf ranges indexOf widthOf
-ends-fit Cost = (record { sfits = lit< tt }, record { sfits = lit< tt })
-ends-fit Least = (record { sfits = lit< tt }, record { sfits = lit< tt })
-ends-fit Most = (record { sfits = lit< tt }, record { sfits = lit< tt })
-ends-fit Coefficient = (record { sfits = lit< tt }, record { sfits = lit< tt })
-ends-fit Bound = (record { sfits = lit< tt }, record { sfits = lit< tt })
-
-fits : (kind : Kind) (v : ℤ) → inRange (rangeOf kind) v ≡ true → SFits (widthOf kind) v
-unfolding inRange
-fits kind v h =
-    let t : T (inRange (rangeOf kind) v) = rw h tt in
-    let low : rangeOf kind .least ≤ℤ v = search (and-l, and-r, leZ-yes) in
-    let high : v ≤ℤ rangeOf kind .greatest = search (and-l, and-r, leZ-yes) in
-    sfits-between (ends-fit kind .0) (ends-fit kind .1) low high
-
-value-in : (S : Sheet) (i : ℕ) → badValue S i ≡ false → inRange (rangeOf (kindAt (S .materials) (rowOf (S .key i)) (columnOf (S .key i)))) (S .value i) ≡ true
-unfolding badValue
-value-in S i h = or-not (eqb (natAbs (S .value i)) 0) (inRange (rangeOf (kindAt (S .materials) (rowOf (S .key i)) (columnOf (S .key i)))) (S .value i)) h
-  where
-    or-not : (a b : Bool) → a || not b ≡ false → b ≡ true
-    or-not true b h = let z : _≡_ {A = ℕ} 0 1 = cc in absurd (omega arith)
-    or-not false b h = not-false b h
+use Rattle.entries.specs.declared.Entry.the-variants.{Figure}
+use Rattle.entries.specs.EntryRead.{Figured, rowHere, columnHere, kindHere, placeHere, entryRead, figure-says}
+use Rattle.entries.specs.Store.{Storable, roomOf, storeIf, fits}
+use Rattle.reader.specs.Passes.{hasFigure, rowAt, columnAt, arrayAfter}
+use Rattle.reader.proofs.Places.{back, there}
 
 -- ---- one entry more
 -- a kind is known by its place in the table of ranges
@@ -129,17 +50,11 @@ module _ (S : Sheet) (i : ℕ) where
   abbrev m : ℕ
   m = S .limits
 
-  abbrev row : ℕ
-  row = rowOf (S .key i)
-
-  abbrev column : ℕ
-  column = columnOf (S .key i)
-
   abbrev kind : Kind
-  kind = kindAt n row column
+  kind = kindHere S i
 
   abbrev place : ℕ
-  place = placeOf kind row column
+  place = placeHere S i
 
   abbrev keyAt : Kind → ℕ → ℕ
   keyAt mine x = rowAt mine x * 64 + columnAt n mine x
@@ -153,10 +68,10 @@ module _ (S : Sheet) (i : ℕ) where
   unfolding valueUnder
   this-key key h = rw (add-one, eq-eqb (S .key i) key h)
 
-  module _ (narrow : n ≤ 32) (few : m ≤ 16) (good : FigureAt n m row column) where
+  module _ (narrow : n ≤ 32) (few : m ≤ 16) (good : FigureAt n m (rowHere S i) (columnHere S i)) where
     -- the entry's key stands at its own place, and at no other
     own-key : S .key i ≡ keyAt kind place
-    own-key = let t = there n m row column narrow few good in sym (rw (t .same-row, t .same-column) (parts-key (S .key i)))
+    own-key = let t = there n m (rowHere S i) (columnHere S i) narrow few good in sym (rw (t .same-row, t .same-column) (parts-key (S .key i)))
 
     own-place : (mine : Kind) (y : ℕ) → hasFigure n m mine y ≡ true → S .key i ≡ keyAt mine y → (mine ≡ kind) × (y ≡ place)
     own-place mine y h e =
@@ -167,13 +82,13 @@ module _ (S : Sheet) (i : ℕ) where
 
     -- its place and its value fit the array
     storable : badValue S i ≡ false → Storable kind place (S .value i)
-    storable h = record { below = there n m row column narrow few good .below; fits = fits kind (S .value i) (value-in S i h) }
+    storable h = record { below = there n m (rowHere S i) (columnHere S i) narrow few good .below; fits = fits kind (S .value i) (good-value S i h) }
 
     -- storing entry i changes the array of its kind ..
     here : set (arrayAfter S kind i) place (S .value i) ≡ arrayAfter S kind (i + 1)
     unfolding arrayAfter
     here =
-        let t = there n m row column narrow few good in
+        let t = there n m (rowHere S i) (columnHere S i) narrow few good in
         ap (set (arrayAfter S kind i) place) (this-key (keyAt kind place) own-key)
         ∙ placed-set (roomOf kind) (hasFigure n m kind) (λ x. valueUnder S i (keyAt kind x)) (λ x. valueUnder S (i + 1) (keyAt kind x))
         (t .below) (t .figure) (λ y _ h other. other-key (keyAt kind y) (λ e. other (own-place kind y h e .1)))
@@ -196,9 +111,9 @@ module _ (S : Sheet) (i : ℕ) where
 
 -- ---- an entry that was read: it fits its array, and storing it gives the arrays after it
 module _ (S : Sheet) (i : ℕ) (narrow : S .materials ≤ 32) (few : S .limits ≤ 16)
-    (good : FigureAt (S .materials) (S .limits) (rowOf (S .key i)) (columnOf (S .key i)))
+    (good : FigureAt (S .materials) (S .limits) (rowHere S i) (columnHere S i))
     {k : Kind} {at : ℕ} {v : ℤ} (read : entryRead S i ≡ Figure k at v) where
-  abbrev says : Figured (badValue S i) (kind S i) k (place S i) at (S .value i) v
+  abbrev says : Figured (badValue S i) (kindHere S i) k (placeHere S i) at (S .value i) v
   says = figure-says S i read
 
   pub entry-fits : Storable k at v

@@ -2,22 +2,20 @@
 ghost use mathlib.Core.Path.{_≡_};
 ghost use Prim.Native.Nat.{_≤_};
 ghost use lib.ListN.{length};
-ghost use Rattle.rules.specs.declared.Kind.the-variants.{Cost, Least, Most, Coefficient, Bound};
 ghost use Rattle.rules.specs.Sheet.{sheetOf};
-ghost use Rattle.numbers.specs.Inside.{Inside};
 ghost use Rattle.figures.specs.Figures.{noFigures};
 ghost use Rattle.reader.specs.Reading.{refusalOf, withoutFigures, Reads, ReadsAs};
-ghost use Rattle.reader.specs.Passes.{Number, Headed, KeyAsked, EntryAsked, Keyed, RowOf, Storable, StoreAsked, Stored, storedBy, figuresRefusal, sizesOf, headerRefusal, keyRefusal, valueRefusal, crossedRefusal, keyRead, entryRead, placeOf, storeIf};
+ghost use Rattle.reader.specs.Passes.{Headed, Keyed, StoreAsked, Stored, storedBy, sizesOf, headerRefusal, keyRefusal, valueRefusal, crossedRefusal, figuresRefusal};
+use entries::Entry;
+use entries::Key;
+use entries::read_entry;
+use entries::read_key;
+use entries::store;
 use figures::Figures;
-use numbers::signed_32;
-use numbers::unsigned_16;
-use ranges::Meaning;
+use numbers::size_at;
 use ranges::dimensions_in_range;
-use ranges::in_range;
-use ranges::meaning_at;
 use ranges::parameters_in_range;
 use rules::Cause;
-use rules::Kind;
 use rules::Refusal;
 
 // Whether a sheet is refused.
@@ -40,18 +38,6 @@ struct Sizes {
     numerator: usize,
     scale: usize,
     steps: usize,
-}
-
-// What reading an entry's key gives. `Bad` is refusal 5.
-enum Key {
-    Good(usize),
-    Bad,
-}
-
-// What reading an entry gives: a value, and its place in the array of its kind. `Bad` is refusal 6.
-enum Entry {
-    Figure { kind: Kind, at: usize, value: i32 },
-    Bad,
 }
 
 fn no_figures() -> Figures
@@ -89,14 +75,6 @@ fn refused(place: usize, cause: Cause) -> Verdict
     })
 }
 
-// The unsigned number in the 2 bytes from place `at` on.
-fn size_at(s: &[u8], at: usize) -> usize
-    requires { ⌜ Inside 2 (now s) at ⌝ }
-    ensures { λ r. ⌜ Number (now (s .entry)) at r ⌝ }
-{
-    unsigned_16(s, at) as usize
-}
-
 fn sizes_of(s: &[u8]) -> Sizes
     requires { ⌜ 12 ≤ length (now s) ⌝ }
     ensures { λ r. ⌜ r ≡ sizesOf (now (s .entry)) ⌝ }
@@ -128,25 +106,6 @@ fn check_header(length: usize, sizes: Sizes) -> Verdict
     Verdict::Accepted
 }
 
-// The key of entry i. `before` is the key before it, if there is one.
-fn read_key(s: &[u8], n: usize, m: usize, i: usize, before: usize) -> Key
-    requires { ⌜ KeyAsked (now s) n m i before ⌝ }
-    ensures { λ r. ⌜ r ≡ keyRead (sheetOf (now (s .entry))) i ⌝ }
-{
-    let key = size_at(s, 12 + 2 * i);
-    let meaning = meaning_at(n, m, key / 64, key % 64);
-    let Meaning::Figure(_) = meaning else {
-        return Key::Bad;
-    };
-    if i == 0 {
-        return Key::Good(key);
-    }
-    if key <= before {
-        return Key::Bad;
-    }
-    Key::Good(key)
-}
-
 // Refusal 5: the first entry whose key is bad.
 fn check_keys(s: &[u8], sizes: Sizes) -> Verdict
     requires { ⌜ Headed (now s) sizes ⌝ }
@@ -154,10 +113,10 @@ fn check_keys(s: &[u8], sizes: Sizes) -> Verdict
 {
     let n = sizes.materials;
     let m = sizes.limits;
-    let count = sizes.entries;
-    let mut before: usize = 0;
-    let mut i: usize = 0;
-    while i < count {
+    let e = sizes.entries;
+    let mut before = 0;
+    let mut i = 0;
+    while i < e {
         let read = read_key(s, n, m, i, before);
         let Key::Good(key) = read else {
             return refused(i, Cause::Key);
@@ -166,84 +125,6 @@ fn check_keys(s: &[u8], sizes: Sizes) -> Verdict
         i += 1;
     }
     Verdict::Accepted
-}
-
-// The place of a figure in the array of its kind.
-fn place_of(kind: Kind, row: usize, column: usize) -> usize
-    requires { ⌜ RowOf kind row column ⌝ }
-    ensures { λ r. ⌜ r ≡ placeOf kind row column ⌝ }
-{
-    match kind {
-        Kind::Cost => column,
-        Kind::Least => column,
-        Kind::Most => column,
-        Kind::Coefficient => 32 * (row - 3) + column,
-        Kind::Bound => row - 3,
-    }
-}
-
-// Entry i, whose key is good.
-fn read_entry(s: &[u8], n: usize, m: usize, e: usize, i: usize) -> Entry
-    requires { ⌜ EntryAsked (now s) n m e i ⌝ }
-    ensures { λ r. ⌜ r ≡ entryRead (sheetOf (now (s .entry))) i ⌝ }
-{
-    let key = size_at(s, 12 + 2 * i);
-    let row = key / 64;
-    let column = key % 64;
-    let meaning = meaning_at(n, m, row, column);
-    let Meaning::Figure(kind) = meaning else {
-        return Entry::Bad;
-    };
-    let value = signed_32(s, 12 + 2 * e + 4 * i);
-    if value == 0 {
-        return Entry::Bad;
-    }
-    if !in_range(kind, value) {
-        return Entry::Bad;
-    }
-    let at = place_of(kind, row, column);
-    Entry::Figure {
-        kind: kind,
-        at: at,
-        value: value,
-    }
-}
-
-// Stores a value in the array of its kind; the other arrays stay as lent.
-fn store(
-    kind: Kind,
-    at: usize,
-    value: i32,
-    cost: &mut [i16; 32],
-    least: &mut [i16; 32],
-    most: &mut [i16; 32],
-    coefficient: &mut [i16; 512],
-    bound: &mut [i32; 16],
-)
-    requires { ⌜ Storable kind at value ⌝ }
-    ensures { λ _. ⌜ now (cost .exit) ≡ storeIf Cost kind at value (now (cost .entry)) ⌝ }
-    ensures { λ _. ⌜ now (least .exit) ≡ storeIf Least kind at value (now (least .entry)) ⌝ }
-    ensures { λ _. ⌜ now (most .exit) ≡ storeIf Most kind at value (now (most .entry)) ⌝ }
-    ensures { λ _. ⌜ now (coefficient .exit) ≡ storeIf Coefficient kind at value (now (coefficient .entry)) ⌝ }
-    ensures { λ _. ⌜ now (bound .exit) ≡ storeIf Bound kind at value (now (bound .entry)) ⌝ }
-{
-    match kind {
-        Kind::Cost => {
-            cost[at] = value as i16;
-        }
-        Kind::Least => {
-            least[at] = value as i16;
-        }
-        Kind::Most => {
-            most[at] = value as i16;
-        }
-        Kind::Coefficient => {
-            coefficient[at] = value as i16;
-        }
-        Kind::Bound => {
-            bound[at] = value;
-        }
-    }
 }
 
 // Refusal 6: the first entry whose value is bad. The values of the entries before it are stored.

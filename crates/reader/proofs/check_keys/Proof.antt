@@ -8,25 +8,25 @@ use Rattle.rules.specs.Sheet.{Sheet, sheetOf}
 use Rattle.rules.specs.Refusals.{Numbered, numberOf, numbered, refuse, firstBelow, badKey}
 use Rattle.laws.specs.FirstPlace.{refuse-yes, refuse-no, first-start, first-more, first-found, first-end}
 use Rattle.reader.specs.Reading.{refusalOf}
-use Rattle.reader.specs.Passes.{keyBefore, keyRefusal}
+use Rattle.reader.specs.Passes.{keyRefusal}
 use Rattle.reader.proofs.Header.{materials-is, limits-is, entries-is, in-range}
-use Rattle.reader.proofs.KeyRead.{good-says, bad-says, before-next}
+use Rattle.entries.specs.KeyRead.{keyBefore, good-says, bad-says, before-next}
 use Rattle.reader.proofs.check_keys.Statement.{statement}
 use Rattle.reader.proofs.check_keys.Tie as tie
 
 abbrev test : Sheet → ℕ → Option Numbered
 test S i = refuse 5 i (badKey S i)
 
-record Turn (S : Sheet) (count before i : ℕ) : Type 0 where
-  within : i ≤ count
+record Turn (S : Sheet) (e before i : ℕ) : Type 0 where
+  within : i ≤ e
   keys : firstBelow i (test S) ≡ none
   previous : before ≡ keyBefore S i
 
 abbrev Inv-loop : tie.InvT-loop
-Inv-loop s n m count before₀ i₀ before i = Turn (sheetOf s) count before i
+Inv-loop s n m e before₀ i₀ before i = Turn (sheetOf s) e before i
 
 abbrev μ-loop : tie.MeasureT-loop
-μ-loop s n m count before₀ i₀ before i = count - i
+μ-loop s n m e before₀ i₀ before i = e - i
 
 loop-holds : tie.Need-loop-holds Inv-loop μ-loop
 unfolding keyBefore

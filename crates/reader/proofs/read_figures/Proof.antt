@@ -2,6 +2,7 @@
 use mathlib.Core.Path.{_≡_, refl, sym, ap, _∙_}
 use mathlib.Core.List.{List}
 use mathlib.Core.Option.{none}
+use native.Mathlib.Omega.{arith}
 use lib.IntN.{ℤ}
 use borrow.Author.Needs.{needs}
 use Rattle.rules.specs.declared.Kind.{Kind}
@@ -11,7 +12,8 @@ use Rattle.laws.specs.FirstPlace.{given, handed-on}
 use Rattle.figures.specs.Figures.{figuresOf}
 use Rattle.reader.specs.declared.Verdict.{Verdict}
 use Rattle.reader.specs.Reading.{refusalOf}
-use Rattle.reader.specs.Passes.{storedBy, roomOf, arrayAfter, valueRefusal, crossedRefusal, boundRefusal, figuresRefusal}
+use Rattle.entries.specs.Store.{roomOf}
+use Rattle.reader.specs.Passes.{storedBy, arrayAfter, valueRefusal, crossedRefusal, boundRefusal, figuresRefusal}
 use Rattle.reader.proofs.Header.{materials-is, limits-is, numerator-is, scale-is, steps-is, entries-is, in-range, narrow}
 use Rattle.reader.proofs.Stored.{arrayIn, none-stored, all-stored}
 use Rattle.reader.proofs.Chain.{crossed-is}
@@ -68,7 +70,7 @@ module _ (c : tie.After-enum-told) where
   filled kind e = e ∙ ap (arrayAfter (S a) kind) all ∙ all-stored (S a) kind
 
 check-bounds-requires : tie.Need-check-bounds-requires
-check-bounds-requires c κs = in-range (start (a (c .before .before)) .pre .headed) .narrow
+check-bounds-requires c κs = let d = in-range (start (a (c .before .before)) .pre .headed) in omega arith
 
 -- refusals 6 and 7, in the definition's terms
 module _ (c : tie.After-check-bounds) where

@@ -13,14 +13,15 @@ use Rattle.rules.specs.declared.Kind.{Kind}
 use Rattle.rules.specs.declared.Kind.the-variants.{Cost, Least, Most, Coefficient, Bound}
 use Rattle.rules.specs.Sheet.{Sheet, sheetOf, rowOf, columnOf}
 use Rattle.rules.specs.Refusals.{Numbered, numberOf, numbered, refuse, firstBelow, noFigureAt, badValue}
-use Rattle.laws.specs.Keys.{FigureAt, figure-at}
+use Rattle.laws.specs.Entries.{FigureAt, figure-at}
 use Rattle.laws.specs.FirstPlace.{refuse-yes, refuse-no, first-start, first-more, first-found, first-end}
-use Rattle.reader.specs.declared.Entry.the-variants.{Figure}
+use Rattle.entries.specs.declared.Entry.the-variants.{Figure}
 use Rattle.reader.specs.declared.Verdict.{Verdict}
 use Rattle.reader.specs.Reading.{refusalOf}
-use Rattle.reader.specs.Passes.{Storable, Stored, storedBy, valueRefusal, entryRead, arrayAfter, storeIf}
+use Rattle.entries.specs.Store.{Storable, storeIf}
+use Rattle.reader.specs.Passes.{Stored, storedBy, valueRefusal, arrayAfter}
 use Rattle.reader.proofs.Header.{materials-is, limits-is, entries-is, in-range, narrow, few, figure-there}
-use Rattle.reader.proofs.EntryRead.{figure-says, bad-says}
+use Rattle.entries.specs.EntryRead.{entryRead, figure-says, bad-says}
 use Rattle.reader.proofs.Stored.{entry-fits, entry-stored}
 use Rattle.reader.proofs.store_entries.Statement.{statement}
 use Rattle.reader.proofs.store_entries.Tie as tie

@@ -1,13 +1,13 @@
 -- Each arm is told the kind; a limit's figures stand from row 3 on, so that nothing wraps.
-use mathlib.Core.Path.{_≡_}
+use mathlib.Core.Path.{_≡_, refl}
 use Prim.Native.Nat.{ℕ, _≤_}
 use native.Mathlib.Omega.{arith}
 use borrow.Author.Needs.{needs}
 use Rattle.rules.specs.declared.Kind.{Kind}
 use Rattle.rules.specs.declared.Kind.the-variants.{Coefficient, Bound}
-use Rattle.reader.specs.Passes.{RowOf, firstRow, placeOf}
-use Rattle.reader.proofs.place_of.Statement.{statement}
-use Rattle.reader.proofs.place_of.Tie as tie
+use Rattle.entries.specs.EntryRead.{RowOf, firstRow, placeOf}
+use Rattle.entries.proofs.place_of.Statement.{statement}
+use Rattle.entries.proofs.place_of.Tie as tie
 
 -- the first row of the kind that the arm found
 from : {kind : Kind} {row column : ℕ} (this : Kind) → kind ≡ this → RowOf kind row column → firstRow this ≤ row
@@ -23,23 +23,23 @@ sub-result-2 c = let h = from Bound (c .enum-told5 .given .1) (c .before .before
 
 returns : tie.Need-returns
 unfolding placeOf
-returns c = rw (c .enum-told .given .1)
+returns c = rw (c .enum-told .given .1) refl
 
 returns-2 : tie.Need-returns-2
 unfolding placeOf
-returns-2 c = rw (c .enum-told2 .given .1)
+returns-2 c = rw (c .enum-told2 .given .1) refl
 
 returns-3 : tie.Need-returns-3
 unfolding placeOf
-returns-3 c = rw (c .enum-told3 .given .1)
+returns-3 c = rw (c .enum-told3 .given .1) refl
 
 returns-4 : tie.Need-returns-4
 unfolding placeOf
-returns-4 c = rw (c .enum-told4 .given .1)
+returns-4 c = rw (c .enum-told4 .given .1) refl
 
 returns-5 : tie.Need-returns-5
 unfolding placeOf
-returns-5 c = rw (c .enum-told5 .given .1)
+returns-5 c = rw (c .enum-told5 .given .1) refl
 
 pub place-of-spec : {M : Type 1} → statement M
 place-of-spec =

@@ -16,11 +16,11 @@ use Rattle.rules.specs.Ranges.{rangeOf, kindAt, inRange}
 use Rattle.rules.specs.Refusals.{noFigureAt}
 use Rattle.ranges.specs.declared.Meaning.the-variants as Meaning
 use Rattle.ranges.specs.Meaning.{meaningAt, nothing-says, figure-says}
-use Rattle.reader.specs.declared.Entry.the-variants.{Figure}
-use Rattle.reader.specs.Passes.{placeOf}
-use Rattle.reader.proofs.EntryRead.{zero-value, out-of-range, in-range, row-of}
-use Rattle.reader.proofs.read_entry.Statement.{statement}
-use Rattle.reader.proofs.read_entry.Tie as tie
+use Rattle.entries.specs.declared.Entry.the-variants.{Figure}
+use Rattle.entries.specs.EntryRead.{placeOf}
+use Rattle.entries.proofs.ValueTests.{zero-value, out-of-range, in-range, row-of}
+use Rattle.entries.proofs.read_entry.Statement.{statement}
+use Rattle.entries.proofs.read_entry.Tie as tie
 
 -- what was read is the sheet's key, and what was found is the meaning of its place
 module _ (c : tie.After-meaning-at) where

@@ -1,15 +1,13 @@
 -- What reading a key gives, by the tests that the code makes: has the place a figure, and is the key above the one before?
 use mathlib.Core.Path.{_≡_, refl}
-use mathlib.Core.Bool.{Bool, true, false}
-use Prim.Native.Nat.{ℕ, zero, suc, _+_, _≤_, _<_}
-use native.Mathlib.Omega.{arith}
-use native.Mathlib.Numerals.{add-one}
+use mathlib.Core.Bool.{true, false}
+use Prim.Native.Nat.{ℕ, zero, suc, _<_, _≤_}
 use borrow.Author.Tests.{le-leb, lt-leb}
 use lib.Dec.{leb}
 use Rattle.rules.specs.Sheet.{Sheet, rowOf, columnOf}
 use Rattle.rules.specs.Refusals.{noFigureAt, notAbove, badKey}
-use Rattle.reader.specs.declared.Key.the-variants.{Good, Bad}
-use Rattle.reader.specs.Passes.{keyBefore, goodUnless, keyRead}
+use Rattle.entries.specs.declared.Key.the-variants.{Good, Bad}
+use Rattle.entries.specs.KeyRead.{keyBefore, goodUnless, keyRead}
 
 none-before : (S : Sheet) (i : ℕ) → i ≡ 0 → notAbove S i ≡ false
 unfolding notAbove
@@ -37,28 +35,3 @@ module _ (S : Sheet) (i : ℕ) where
     pub rising : (i ≡ 0 → ⊥) → keyBefore S i < S .key i → keyRead S i ≡ Good (S .key i)
     unfolding keyRead goodUnless badKey
     rising other l = rw (h, not-above S i other, lt-leb (S .key i) (keyBefore S i) l)
-
--- ---- what an answer says
-good : (b : Bool) (key k : ℕ) → goodUnless b key ≡ Good k → (b ≡ false) × (key ≡ k)
-unfolding goodUnless
-good true key k h = let z : _≡_ {A = ℕ} 0 1 = cc in absurd (omega arith)
-good false key k h = (refl, cc)
-
-bad : (b : Bool) (key : ℕ) → goodUnless b key ≡ Bad → b ≡ true
-unfolding goodUnless
-bad true key h = refl
-bad false key h = let z : _≡_ {A = ℕ} 0 1 = cc in absurd (omega arith)
-
-module _ (S : Sheet) (i : ℕ) where
-  pub good-says : {k : ℕ} → keyRead S i ≡ Good k → (badKey S i ≡ false) × (S .key i ≡ k)
-  unfolding keyRead
-  good-says h = good (badKey S i) (S .key i) _ h
-
-  pub bad-says : keyRead S i ≡ Bad → badKey S i ≡ true
-  unfolding keyRead
-  bad-says h = bad (badKey S i) (S .key i) h
-
-  -- the key of an entry is the one before the next
-  pub before-next : keyBefore S (i + 1) ≡ S .key i
-  unfolding keyBefore
-  before-next = rw add-one

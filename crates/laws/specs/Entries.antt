@@ -1,16 +1,17 @@
--- Keys: row × 64 + column, and the kind of figure that a row and a column have.
+-- Entries: a key is row × 64 + column, a row and a column decide a kind of figure, and what the tests of an entry say where it passes.
 use mathlib.Core.Path.{_≡_, refl}
 use mathlib.Core.Logic.{inl, inr}
 use mathlib.Core.Bool.{Bool, true, false, not, cond, _&&_, _||_}
 use Prim.Native.Nat.{ℕ, suc, _+_, _*_, _<_, _≤_}
 use native.Mathlib.Omega.{arith}
-use borrow.Author.Tests.{eq-eqb, ne-eqb}
+use borrow.Author.Tests.{eq-eqb, ne-eqb, not-false}
 use lib.Dec.{T, ltb, leb, eqb}
+use lib.IntN.{natAbs}
 use mir.Facts.{or-no, and-no, ltb-no, leb-no, eqb-no}
 use Rattle.rules.specs.declared.Kind.the-variants.{Coefficient, Bound}
 use Rattle.rules.specs.Sheet.{Sheet, rowOf, columnOf}
-use Rattle.rules.specs.Ranges.{kindAt}
-use Rattle.rules.specs.Refusals.{noFigureAt, notAbove, badKey}
+use Rattle.rules.specs.Ranges.{rangeOf, kindAt, inRange}
+use Rattle.rules.specs.Refusals.{noFigureAt, notAbove, badKey, badValue}
 
 -- a key gives its row and its column back ..
 pub key-parts : (row column : ℕ) → column < 64 → (rowOf (row * 64 + column) ≡ row) × (columnOf (row * 64 + column) ≡ column)
@@ -63,3 +64,12 @@ good-key S i h = or-left (noFigureAt (S .materials) (S .limits) (rowOf (S .key i
     or-left : (a b : Bool) → a || b ≡ false → a ≡ false
     or-left true b h = h
     or-left false b h = refl
+
+-- a good value lies in the range of its kind
+pub good-value : (S : Sheet) (i : ℕ) → badValue S i ≡ false → inRange (rangeOf (kindAt (S .materials) (rowOf (S .key i)) (columnOf (S .key i)))) (S .value i) ≡ true
+unfolding badValue
+good-value S i h = or-not (eqb (natAbs (S .value i)) 0) (inRange (rangeOf (kindAt (S .materials) (rowOf (S .key i)) (columnOf (S .key i)))) (S .value i)) h
+  where
+    or-not : (a b : Bool) → a || not b ≡ false → b ≡ true
+    or-not true b h = let z : _≡_ {A = ℕ} 0 1 = cc in absurd (omega arith)
+    or-not false b h = not-false b h

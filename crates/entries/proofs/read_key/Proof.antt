@@ -7,10 +7,10 @@ use borrow.Author.Needs.{needs}
 use Rattle.rules.specs.Sheet.{Sheet, sheetOf, rowOf, columnOf}
 use Rattle.rules.specs.Refusals.{noFigureAt}
 use Rattle.ranges.specs.Meaning.{meaningAt, nothing-says, figure-says}
-use Rattle.reader.specs.declared.Key.the-variants.{Good}
-use Rattle.reader.proofs.KeyRead.{no-figure, first-key, falling, rising}
-use Rattle.reader.proofs.read_key.Statement.{statement}
-use Rattle.reader.proofs.read_key.Tie as tie
+use Rattle.entries.specs.declared.Key.the-variants.{Good}
+use Rattle.entries.proofs.KeyTests.{no-figure, first-key, falling, rising}
+use Rattle.entries.proofs.read_key.Statement.{statement}
+use Rattle.entries.proofs.read_key.Tie as tie
 
 -- what was read is the sheet's key, and what was found is the meaning of its place
 module _ (c : tie.After-meaning-at) where

@@ -9,9 +9,9 @@ use borrow.Author.Needs.{needs}
 use Rattle.rules.specs.declared.Kind.{Kind}
 use Rattle.rules.specs.declared.Kind.the-variants.{Cost, Least, Most, Coefficient, Bound}
 use Rattle.rules.specs.Ranges.{indexOf}
-use Rattle.reader.specs.Passes.{Storable, storeIf, roomOf, widthOf}
-use Rattle.reader.proofs.store.Statement.{statement}
-use Rattle.reader.proofs.store.Tie as tie
+use Rattle.entries.specs.Store.{Storable, storeIf, roomOf, widthOf}
+use Rattle.entries.proofs.store.Statement.{statement}
+use Rattle.entries.proofs.store.Tie as tie
 
 -- what is asked, where the kind is known
 known : {kind : Kind} {at : _} {v : ℤ} (this : Kind) → kind ≡ this → Storable kind at v → Storable this at v
