@@ -1,11 +1,11 @@
 use Prim.Native.Nat.{ℕ, _+_, _*_, _≤_}
 use mathlib.Core.Path.{_≡_}
 use mathlib.Core.Bool.{true, _&&_, and-eq-true-iff}
-use native.Mathlib.Nat.{mul-le-mul}
 use native.Mathlib.Omega.{arith}
 use borrow.Author.Needs.{needs}
 use borrow.Author.Tests.{leb-true}
 use Rattle.rules.specs.Ranges.{between, dimensionsInRange}
+use Rattle.laws.specs.Sizes.{few-entries}
 use Rattle.ranges.proofs.dimensions_in_range.Statement.{statement}
 use Rattle.ranges.proofs.dimensions_in_range.Tie as tie
 
@@ -14,9 +14,7 @@ few : (n m : ℕ) → (between 1 32 n && between 0 16 m) ≡ true → n * (m + 3
 unfolding between
 few n m h =
     let both = simp and-eq-true-iff at h in
-    let materials : n ≤ 32 = omega (arith, leb-true) in
-    let limits : m + 3 ≤ 19 = omega (arith, leb-true) in
-    omega (arith, mul-le-mul materials limits)
+    few-entries (omega (arith, leb-true)) (omega (arith, leb-true))
 
 -- the test that the code has passed, as the definition has it
 passed : (c : tie.Then1) → let a = c .before .before .before .args in (between 1 32 (a .n) && between 0 16 (a .m)) ≡ true
