@@ -17,12 +17,21 @@ unfoldable pub placed : ℕ → (ℕ → Bool) → (ℕ → ℤ) → List ℤ
 placed room here f = tabulate room (λ x. cond (here x) (f x) (pos 0))
 
 -- n figures: figure j at place j
+abbrev pub inRow : ℕ → ℕ → Bool
+inRow n x = ltb x n
+
 unfoldable pub row : ℕ → ℕ → (ℕ → ℤ) → List ℤ
-row room n f = placed room (λ x. ltb x n) f
+row room n f = placed room (inRow n) f
 
 -- m rows of n figures, each of 32 places: figure j of row i at place 32·i + j
+abbrev pub inRows : ℕ → ℕ → ℕ → Bool
+inRows m n x = ltb (x / 32) m && ltb (x % 32) n
+
+abbrev pub byRows : (ℕ → ℕ → ℤ) → ℕ → ℤ
+byRows f x = f (x / 32) (x % 32)
+
 unfoldable pub rows : ℕ → ℕ → ℕ → (ℕ → ℕ → ℤ) → List ℤ
-rows room m n f = placed (32 * room) (λ x. ltb (x / 32) m && ltb (x % 32) n) (λ x. f (x / 32) (x % 32))
+rows room m n f = placed (32 * room) (inRows m n) (byRows f)
 
 -- ---- what stands at a place
 module _ (room : ℕ) (here : ℕ → Bool) (f : ℕ → ℤ) where
@@ -57,33 +66,27 @@ pub record RowsHold (m n : ℕ) (f : ℕ → ℕ → ℤ) (array : List ℤ) : T
 pub row-holds : (room n : ℕ) (f : ℕ → ℤ) → n ≤ room → RowHolds n f (row room n f)
 unfolding row
 row-holds room n f l = record {
-  here = λ j h. at-figure room (λ x. ltb x n) f j (lt-of-lt-of-le h l) (lt-ltb j n h);
-  past = λ j h. at-empty room (λ x. ltb x n) f j (le-ltb j n h);
+  here = λ j h. at-figure room (inRow n) f j (lt-of-lt-of-le h l) (lt-ltb j n h);
+  past = λ j h. at-empty room (inRow n) f j (le-ltb j n h);
 }
 
 -- place 32·i + j is place j of row i
-row-parts : (i j : ℕ) → j < 32 → ((32 * i + j) / 32 ≡ i) × ((32 * i + j) % 32 ≡ j)
+pub row-parts : (i j : ℕ) → j < 32 → ((32 * i + j) / 32 ≡ i) × ((32 * i + j) % 32 ≡ j)
 row-parts i j l = omega arith
 
 module _ (room m n : ℕ) (f : ℕ → ℕ → ℤ) (few : m ≤ room) (narrow : n ≤ 32) where
-  abbrev figure : ℕ → Bool
-  figure x = ltb (x / 32) m && ltb (x % 32) n
-
-  abbrev value : ℕ → ℤ
-  value x = f (x / 32) (x % 32)
-
   rows-here : (i j : ℕ) → i < m → j < n → at (rows room m n f) (32 * i + j) ≡ f i j
   unfolding rows
   rows-here i j p q =
       let (r, c) = row-parts i j (lt-of-lt-of-le q narrow) in
-      at-figure (32 * room) figure value (32 * i + j) (omega arith) (rw (r, c, lt-ltb i m p, lt-ltb j n q)) ∙ rw (r, c)
+      at-figure (32 * room) (inRows m n) (byRows f) (32 * i + j) (omega arith) (rw (r, c, lt-ltb i m p, lt-ltb j n q)) ∙ rw (r, c) refl
 
   pub rows-hold : RowsHold m n f (rows room m n f)
   unfolding rows
   rows-hold = record {
     here = rows-here;
-    below = λ i j p l. at-empty (32 * room) figure value (32 * i + j) (rw (row-parts i j l .0, le-ltb i m p));
-    beside = λ i j q l. at-empty (32 * room) figure value (32 * i + j) (rw (row-parts i j l .1, le-ltb j n q, and-false));
+    below = λ i j p l. at-empty (32 * room) (inRows m n) (byRows f) (32 * i + j) (rw (row-parts i j l .0, le-ltb i m p));
+    beside = λ i j q l. at-empty (32 * room) (inRows m n) (byRows f) (32 * i + j) (rw (row-parts i j l .1, le-ltb j n q, and-false));
   }
 
 -- ---- storing a figure

@@ -1,10 +1,10 @@
 -- What the passes over a sheet ask and give.
 use mathlib.Core.Path.{_≡_}
-use mathlib.Core.Bool.{Bool, true, not, _&&_}
+use mathlib.Core.Bool.{Bool, true, not}
 use mathlib.Core.List.{List}
 use mathlib.Core.Option.{Option, none}
 use Prim.Native.Nat.{ℕ, _+_, _*_, _/_, _%_}
-use lib.Dec.{ltb, eqb}
+use lib.Dec.{eqb}
 use lib.IntN.{ℤ}
 use lib.ListN.{length}
 use lib.Signed.{ltZ}
@@ -14,7 +14,7 @@ use Rattle.rules.specs.declared.Kind.the-variants.{Cost, Least, Most, Coefficie
 use Rattle.rules.specs.Sheet.{Sheet, sheetOf, sheetLength, valueUnder}
 use Rattle.rules.specs.Ranges.{dimensionsInRange, parametersInRange}
 use Rattle.rules.specs.Refusals.{Numbered, refuse, _otherwise_, firstBelow, badKey, badValue, crossed}
-use Rattle.figures.specs.Arrays.{placed}
+use Rattle.figures.specs.Arrays.{placed, inRow, inRows}
 use Rattle.entries.specs.Store.{roomOf}
 use Rattle.reader.specs.declared.Verdict.{Verdict}
 use Rattle.reader.specs.declared.Verdict.the-variants.{Accepted, Refused}
@@ -64,11 +64,11 @@ pub record Keyed (s : List ℕ) (z : Sizes) : Type 0 where
 -- ---- the arrays
 -- has place x of the array of a kind a figure, with n materials and m limits?
 unfoldable pub hasFigure : ℕ → ℕ → Kind → ℕ → Bool
-hasFigure n m Cost x = ltb x n
-hasFigure n m Least x = ltb x n
-hasFigure n m Most x = ltb x n
-hasFigure n m Coefficient x = ltb (x / 32) m && ltb (x % 32) n
-hasFigure n m Bound x = ltb x m
+hasFigure n m Cost x = inRow n x
+hasFigure n m Least x = inRow n x
+hasFigure n m Most x = inRow n x
+hasFigure n m Coefficient x = inRows m n x
+hasFigure n m Bound x = inRow m x
 
 -- the row and the column of that figure
 unfoldable pub rowAt : Kind → ℕ → ℕ
