@@ -1,43 +1,37 @@
 // One entry of a sheet: its key, its value, and its place in the arrays of figures.
 ghost use mathlib.Core.Path.{_≡_};
 ghost use Rattle.rules.specs.declared.Kind.the-variants.{Cost, Least, Most, Coefficient, Bound};
-ghost use Rattle.rules.specs.Sheet.{sheetOf};
-ghost use Rattle.entries.specs.KeyRead.{KeyAsked, keyRead};
-ghost use Rattle.entries.specs.EntryRead.{EntryAsked, RowOf, placeOf, entryRead};
+ghost use Rattle.ranges.specs.Meaning.{FewLimits};
+ghost use Rattle.entries.specs.KeyRead.{keyOf, keyRead};
+ghost use Rattle.entries.specs.EntryRead.{PlaceAsked, placeOf, entryOf, entryRead};
 ghost use Rattle.entries.specs.Store.{Storable, storeIf};
-use numbers::signed_32;
-use numbers::size_at;
 use ranges::Meaning;
 use ranges::in_range;
 use ranges::meaning_at;
 use rules::Kind;
 
-// What reading an entry's key gives. `Bad` is refusal 5.
+// What reading an entry's key gives: the key, or refusal 5.
 pub enum Key {
     Good(usize),
     Bad,
 }
 
-// What reading an entry gives: a value, and its place in the array of its kind. `Bad` is refusal 6.
+// What reading an entry gives: a value, with its kind and its place in the array of that kind, or refusal 6.
 pub enum Entry {
     Figure { kind: Kind, at: usize, value: i32 },
     Bad,
 }
 
-// The key of entry i. `before` is the key before it, if there is one.
-pub fn read_key(s: &[u8], n: usize, m: usize, i: usize, before: usize) -> Key
-    requires { ⌜ KeyAsked (now s) n m i before ⌝ }
-    ensures { λ r. ⌜ r ≡ keyRead (sheetOf (now (s .entry))) i ⌝ }
+// A key, with n materials and m limits. `floor` is the least key that it may be: one more than the key before, if there is one, and else 0.
+pub fn read_key(n: usize, m: usize, floor: usize, key: usize) -> Key
+    requires { ⌜ FewLimits m ⌝ }
+    ensures { λ r. ⌜ keyOf r ≡ keyRead n m floor key ⌝ }
 {
-    let key = size_at(s, 12 + 2 * i);
     let meaning = meaning_at(n, m, key / 64, key % 64);
     let Meaning::Figure(_) = meaning else {
         return Key::Bad;
     };
-    if i == 0 {
-        return Key::Good(key);
-    }
-    if key <= before {
+    if key < floor {
         return Key::Bad;
     }
     Key::Good(key)
@@ -45,7 +39,7 @@ pub fn read_key(s: &[u8], n: usize, m: usize, i: usize, before: usize) -> Key
 
 // The place of a figure in the array of its kind.
 fn place_of(kind: Kind, row: usize, column: usize) -> usize
-    requires { ⌜ RowOf kind row column ⌝ }
+    requires { ⌜ PlaceAsked kind row column ⌝ }
     ensures { λ r. ⌜ r ≡ placeOf kind row column ⌝ }
 {
     match kind {
@@ -57,19 +51,17 @@ fn place_of(kind: Kind, row: usize, column: usize) -> usize
     }
 }
 
-// Entry i, whose key is good.
-pub fn read_entry(s: &[u8], n: usize, m: usize, e: usize, i: usize) -> Entry
-    requires { ⌜ EntryAsked (now s) n m e i ⌝ }
-    ensures { λ r. ⌜ r ≡ entryRead (sheetOf (now (s .entry))) i ⌝ }
+// An entry, with n materials and m limits.
+pub fn read_entry(n: usize, m: usize, key: usize, value: i32) -> Entry
+    requires { ⌜ FewLimits m ⌝ }
+    ensures { λ r. ⌜ entryOf r ≡ entryRead n m key value ⌝ }
 {
-    let key = size_at(s, 12 + 2 * i);
     let row = key / 64;
     let column = key % 64;
     let meaning = meaning_at(n, m, row, column);
     let Meaning::Figure(kind) = meaning else {
         return Entry::Bad;
     };
-    let value = signed_32(s, 12 + 2 * e + 4 * i);
     if value == 0 {
         return Entry::Bad;
     }

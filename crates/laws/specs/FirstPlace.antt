@@ -58,3 +58,14 @@ module _ (test : ℕ → Option Numbered) where
 
   pub first-end : {j n : ℕ} → j ≡ n → firstBelow j test ≡ none → firstBelow n test ≡ none
   first-end e h = rw e at h
+
+-- ---- the same for one refusal, tested at each place
+module _ (number : ℕ) (bad : ℕ → Bool) where
+  abbrev pub scan : ℕ → Option Numbered
+  scan n = firstBelow n (λ i. refuse number i (bad i))
+
+  pub scan-more : {j : ℕ} → scan j ≡ none → bad j ≡ false → scan (j + 1) ≡ none
+  scan-more {j} before here = first-more (λ i. refuse number i (bad i)) before (refuse-no number j here)
+
+  pub scan-found : {j : ℕ} (n : ℕ) → j < n → scan j ≡ none → bad j ≡ true → scan n ≡ some (record { number = number; place = j })
+  scan-found {j} n l before here = first-found (λ i. refuse number i (bad i)) n l before (refuse-yes number j here)

@@ -7,17 +7,17 @@ use lib.Dec.{ltb, eqb}
 use borrow.Author.Tests.{lt-ltb, le-ltb, le-leb, lt-leb}
 use Rattle.rules.specs.Ranges.{kindAt}
 use Rattle.rules.specs.Refusals.{noFigureAt}
-use Rattle.ranges.specs.declared.Meaning.the-variants.{Nothing}
-use Rattle.ranges.specs.Meaning.{unless, meaningAt}
+use Rattle.ranges.specs.Meaning.{meaningAt}
+use Rattle.ranges.specs.Read.{refused, unless}
 
 module _ (n m row column : ℕ) where
   -- rows 0 to 2 end before column n
-  pub material-row : row ≤ 2 → unless (ltb n column || eqb column n) (kindAt n row column) ≡ meaningAt n m row column
+  pub material-row : row ≤ 2 → unless 5 (ltb n column || eqb column n) (kindAt n row column) ≡ meaningAt n m row column
   unfolding meaningAt noFigureAt
   material-row h = rw (le-ltb (m + 2) row (omega arith), le-leb row 2 h, and-true)
 
   -- the row of a limit ends after column n
-  pub limit-row : 3 ≤ row → row ≤ m + 2 → unless (ltb n column) (kindAt n 3 column) ≡ meaningAt n m row column
+  pub limit-row : 3 ≤ row → row ≤ m + 2 → unless 5 (ltb n column) (kindAt n 3 column) ≡ meaningAt n m row column
   unfolding meaningAt noFigureAt kindAt
   limit-row h k =
       -- `kindAt` counts rows by successors
@@ -25,6 +25,6 @@ module _ (n m row column : ℕ) where
       rw (le-ltb (m + 2) row k, lt-leb row 2 h, and-false, or-false, three)
 
   -- there is no row above m + 2
-  pub no-row : m + 2 < row → Nothing ≡ meaningAt n m row column
+  pub no-row : m + 2 < row → refused 5 ≡ meaningAt n m row column
   unfolding meaningAt noFigureAt unless
   no-row h = rw (lt-ltb (m + 2) row h)

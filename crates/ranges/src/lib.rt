@@ -4,28 +4,34 @@ ghost use mathlib.Core.Path.{_≡_};
 ghost use mathlib.Core.Bool.{_||_};
 ghost use lib.Dec.{ltb, eqb};
 ghost use Rattle.rules.specs.Ranges.{indexOf, rangeOf, inRange, between, dimensionsInRange, parametersInRange, kindAt};
-ghost use Rattle.ranges.specs.Meaning.{FewLimits, unless, meaningAt};
+ghost use Rattle.ranges.specs.Meaning.{FewLimits, meaningOf, meaningAt};
+ghost use Rattle.ranges.specs.Read.{unless};
 use rules::Kind;
 use rules::Range;
 
 // The table, in the order of document 01.
-pub const RANGES: [Range; 5] = [
+const RANGES: [Range; 5] = [
+    // row 0: cost
     Range {
         least: -10000,
         greatest: 10000,
     },
+    // row 1: least amount
     Range {
         least: 1,
         greatest: 1000,
     },
+    // row 2: most amount
     Range {
         least: 1,
         greatest: 1000,
     },
+    // rows 3 to m+2, columns 0 to n-1: a of limit row-3
     Range {
         least: -1000,
         greatest: 1000,
     },
+    // rows 3 to m+2, column n: b of limit row-3
     Range {
         least: -32000000,
         greatest: 32000000,
@@ -80,7 +86,7 @@ pub fn dimensions_in_range(n: usize, m: usize, e: usize) -> bool
     ensures { λ r. ⌜ r ≡ dimensionsInRange n m e ⌝ }
 {
     if between(1, 32, n) & between(0, 16, m) {
-        return between(0, n * (m + 3) + m, e);
+        return e <= n * (m + 3) + m;
     }
     false
 }
@@ -94,7 +100,7 @@ pub fn parameters_in_range(p: usize, d: usize, k: usize) -> bool
 
 // A figure of a material stands in the columns below n.
 fn of_material(kind: Kind, n: usize, column: usize) -> Meaning
-    ensures { λ r. ⌜ r ≡ unless (ltb n column || eqb column n) kind ⌝ }
+    ensures { λ r. ⌜ meaningOf r ≡ unless 5 (ltb n column || eqb column n) kind ⌝ }
 {
     if n <= column {
         Meaning::Nothing
@@ -105,7 +111,7 @@ fn of_material(kind: Kind, n: usize, column: usize) -> Meaning
 
 // In a limit's row, its coefficients stand in the columns below n, and its bound in column n.
 fn of_limit(n: usize, column: usize) -> Meaning
-    ensures { λ r. ⌜ r ≡ unless (ltb n column) (kindAt n 3 column) ⌝ }
+    ensures { λ r. ⌜ meaningOf r ≡ unless 5 (ltb n column) (kindAt n 3 column) ⌝ }
 {
     if column < n {
         return Meaning::Figure(Kind::Coefficient);
@@ -119,7 +125,7 @@ fn of_limit(n: usize, column: usize) -> Meaning
 // What stands at a row and a column, with n materials and m limits: the row decides what a figure means.
 pub fn meaning_at(n: usize, m: usize, row: usize, column: usize) -> Meaning
     requires { ⌜ FewLimits m ⌝ }
-    ensures { λ r. ⌜ r ≡ meaningAt n m row column ⌝ }
+    ensures { λ r. ⌜ meaningOf r ≡ meaningAt n m row column ⌝ }
 {
     match row {
         0 => of_material(Kind::Cost, n, column),

@@ -12,18 +12,19 @@ use lib.IntN.{ℤ, pos}
 use lib.ListN.{set, replicate}
 use Rattle.rules.specs.declared.Kind.{Kind}
 use Rattle.rules.specs.declared.Kind.the-variants.{Cost, Least, Most, Coefficient, Bound}
-use Rattle.rules.specs.Sheet.{Sheet, valueUnder, figure, problem}
-use Rattle.rules.specs.Ranges.{indexOf}
-use Rattle.rules.specs.Refusals.{badValue}
-use Rattle.laws.specs.Entries.{FigureAt, key-parts, parts-key, good-value}
+use Rattle.rules.specs.Sheet.{Sheet, rowOf, columnOf, valueUnder, figure, problem}
+use Rattle.rules.specs.Ranges.{indexOf, kindAt}
+use Rattle.rules.specs.Refusals.{noFigureAt, badValue}
+use Rattle.laws.specs.Entries.{FigureAt, figure-at, key-parts, parts-key, good-value}
 use Rattle.figures.specs.Arrays.{placed-cong, placed-set, placed-zero}
 use Rattle.figures.specs.declared.Figures.{Figures}
 use Rattle.figures.specs.Figures.{figuresOf}
 use Rattle.figures.specs.Arrays as figures
-use Rattle.entries.specs.declared.Entry.the-variants.{Figure}
-use Rattle.entries.specs.EntryRead.{Figured, rowHere, columnHere, kindHere, placeHere, entryRead, figure-says}
+use Rattle.ranges.specs.Read.{gives, gives-says}
+use Rattle.entries.specs.EntryRead.{Placed, placeOf, entryPlaced, entryRead}
 use Rattle.entries.specs.Store.{Storable, roomOf, storeIf, fits}
 use Rattle.reader.specs.Passes.{hasFigure, rowAt, columnAt, arrayAfter}
+use Rattle.reader.proofs.Entry.{value-test}
 use Rattle.reader.proofs.Places.{back, there}
 
 -- ---- one entry more
@@ -50,11 +51,17 @@ module _ (S : Sheet) (i : ℕ) where
   abbrev m : ℕ
   m = S .limits
 
+  abbrev row : ℕ
+  row = rowOf (S .key i)
+
+  abbrev column : ℕ
+  column = columnOf (S .key i)
+
   abbrev kind : Kind
-  kind = kindHere S i
+  kind = kindAt n row column
 
   abbrev place : ℕ
-  place = placeHere S i
+  place = placeOf kind row column
 
   abbrev keyAt : Kind → ℕ → ℕ
   keyAt mine x = rowAt mine x * 64 + columnAt n mine x
@@ -68,10 +75,10 @@ module _ (S : Sheet) (i : ℕ) where
   unfolding valueUnder
   this-key key h = rw (add-one, eq-eqb (S .key i) key h)
 
-  module _ (narrow : n ≤ 32) (few : m ≤ 16) (good : FigureAt n m (rowHere S i) (columnHere S i)) where
+  module _ (narrow : n ≤ 32) (few : m ≤ 16) (good : FigureAt n m row column) where
     -- the entry's key stands at its own place, and at no other
     own-key : S .key i ≡ keyAt kind place
-    own-key = let t = there n m (rowHere S i) (columnHere S i) narrow few good in sym (rw (t .same-row, t .same-column) (parts-key (S .key i)))
+    own-key = let t = there n m row column narrow few good in sym (rw (t .same-row, t .same-column) (parts-key (S .key i)))
 
     own-place : (mine : Kind) (y : ℕ) → hasFigure n m mine y ≡ true → S .key i ≡ keyAt mine y → (mine ≡ kind) × (y ≡ place)
     own-place mine y h e =
@@ -82,13 +89,13 @@ module _ (S : Sheet) (i : ℕ) where
 
     -- its place and its value fit the array
     storable : badValue S i ≡ false → Storable kind place (S .value i)
-    storable h = record { below = there n m (rowHere S i) (columnHere S i) narrow few good .below; fits = fits kind (S .value i) (good-value S i h) }
+    storable h = record { below = there n m row column narrow few good .below; fits = fits kind (S .value i) (good-value S i h) }
 
     -- storing entry i changes the array of its kind ..
     here : set (arrayAfter S kind i) place (S .value i) ≡ arrayAfter S kind (i + 1)
     unfolding arrayAfter
     here =
-        let t = there n m (rowHere S i) (columnHere S i) narrow few good in
+        let t = there n m row column narrow few good in
         ap (set (arrayAfter S kind i) place) (this-key (keyAt kind place) own-key)
         ∙ placed-set (roomOf kind) (hasFigure n m kind) (λ x. valueUnder S i (keyAt kind x)) (λ x. valueUnder S (i + 1) (keyAt kind x))
         (t .below) (t .figure) (λ y _ h other. other-key (keyAt kind y) (λ e. other (own-place kind y h e .1)))
@@ -111,18 +118,25 @@ module _ (S : Sheet) (i : ℕ) where
 
 -- ---- an entry that was read: it fits its array, and storing it gives the arrays after it
 module _ (S : Sheet) (i : ℕ) (narrow : S .materials ≤ 32) (few : S .limits ≤ 16)
-    (good : FigureAt (S .materials) (S .limits) (rowHere S i) (columnHere S i))
-    {k : Kind} {at : ℕ} {v : ℤ} (read : entryRead S i ≡ Figure k at v) where
-  abbrev says : Figured (badValue S i) (kindHere S i) k (placeHere S i) at (S .value i) v
-  says = figure-says S i read
+    (there : noFigureAt (S .materials) (S .limits) (rowOf (S .key i)) (columnOf (S .key i)) ≡ false)
+    {p : Placed} (read : entryRead (S .materials) (S .limits) (S .key i) (S .value i) ≡ gives p) where
+  abbrev figure-is : FigureAt (S .materials) (S .limits) (rowOf (S .key i)) (columnOf (S .key i))
+  figure-is = figure-at (S .materials) (S .limits) (rowOf (S .key i)) (columnOf (S .key i)) there
 
-  pub entry-fits : Storable k at v
-  entry-fits = transport (λ j. Storable (says .same-kind j) (says .same-place j) (says .same-value j)) (storable S i narrow few good (says .good))
+  says : (badValue S i ≡ false) × (entryPlaced (S .materials) (S .limits) (S .key i) (S .value i) ≡ p)
+  unfolding entryRead
+  says = rw (value-test S i there) at (gives-says 6 _ _ _ read)
 
-  pub entry-stored : (mine : Kind) {array : List ℤ} → array ≡ arrayAfter S mine i → storeIf mine k at v array ≡ arrayAfter S mine (i + 1)
+  pub entry-good : badValue S i ≡ false
+  entry-good = says .0
+
+  pub entry-fits : Storable (p .kind) (p .place) (p .value)
+  entry-fits = transport (λ j. let q = says .1 j in Storable (q .kind) (q .place) (q .value)) (storable S i narrow few figure-is entry-good)
+
+  pub entry-stored : (mine : Kind) {array : List ℤ} → array ≡ arrayAfter S mine i → storeIf mine (p .kind) (p .place) (p .value) array ≡ arrayAfter S mine (i + 1)
   entry-stored mine e =
-      (λ j. storeIf mine (sym (says .same-kind) j) (sym (says .same-place) j) (sym (says .same-value) j) (e j))
-      ∙ stored S i narrow few good mine
+      (λ j. let q = sym (says .1) j in storeIf mine (q .kind) (q .place) (q .value) (e j))
+      ∙ stored S i narrow few figure-is mine
 
 -- ---- before the first entry, and after the last
 pub none-stored : (S : Sheet) (kind : Kind) → arrayAfter S kind 0 ≡ replicate (roomOf kind) (pos 0)

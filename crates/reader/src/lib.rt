@@ -12,6 +12,7 @@ use entries::read_entry;
 use entries::read_key;
 use entries::store;
 use figures::Figures;
+use numbers::signed_32;
 use numbers::size_at;
 use ranges::dimensions_in_range;
 use ranges::parameters_in_range;
@@ -114,14 +115,14 @@ fn check_keys(s: &[u8], sizes: Sizes) -> Verdict
     let n = sizes.materials;
     let m = sizes.limits;
     let e = sizes.entries;
-    let mut before = 0;
-    let mut i = 0;
+    let mut floor: usize = 0;
+    let mut i: usize = 0;
     while i < e {
-        let read = read_key(s, n, m, i, before);
+        let read = read_key(n, m, floor, size_at(s, 12 + 2 * i));
         let Key::Good(key) = read else {
             return refused(i, Cause::Key);
         };
-        before = key;
+        floor = key + 1;
         i += 1;
     }
     Verdict::Accepted
@@ -146,7 +147,8 @@ fn store_entries(
     let e = sizes.entries;
     let mut i: usize = 0;
     while i < e {
-        let entry = read_entry(s, n, m, e, i);
+        let key = size_at(s, 12 + 2 * i);
+        let entry = read_entry(n, m, key, signed_32(s, 12 + 2 * e + 4 * i));
         let Entry::Figure { kind, at, value } = entry else {
             return refused(i, Cause::Value);
         };
@@ -157,7 +159,7 @@ fn store_entries(
 }
 
 // Refusal 7: the first material whose least amount is above its most.
-fn check_bounds<'a>(n: usize, least: &'a [i16; 32], most: &'a [i16; 32]) -> Verdict
+fn check_bounds(n: usize, least: &[i16; 32], most: &[i16; 32]) -> Verdict
     requires { ⌜ n ≤ 32 ⌝ }
     ensures { λ r. ⌜ refusalOf r ≡ crossedRefusal n (now (least .entry)) (now (most .entry)) ⌝ }
 {

@@ -5,12 +5,12 @@ use native.Mathlib.Omega.{arith}
 use borrow.Author.Needs.{needs}
 use Rattle.rules.specs.declared.Kind.{Kind}
 use Rattle.rules.specs.declared.Kind.the-variants.{Coefficient, Bound}
-use Rattle.entries.specs.EntryRead.{RowOf, firstRow, placeOf}
+use Rattle.entries.specs.EntryRead.{PlaceAsked, firstRow, placeOf}
 use Rattle.entries.proofs.place_of.Statement.{statement}
 use Rattle.entries.proofs.place_of.Tie as tie
 
 -- the first row of the kind that the arm found
-from : {kind : Kind} {row column : ℕ} (this : Kind) → kind ≡ this → RowOf kind row column → firstRow this ≤ row
+from : {kind : Kind} {row column : ℕ} (this : Kind) → kind ≡ this → PlaceAsked kind row column → firstRow this ≤ row
 from this e h = rw e at (h .from)
 
 sub-result : tie.Need-sub-result

@@ -1,111 +1,90 @@
--- The key's place has a figure, as is asked; the value's two tests decide.
+-- The key's place decides, and then the value's two tests.
 use mathlib.Core.Path.{_≡_, sym, ap, _∙_}
 use mathlib.Core.Bool.{false}
-use Prim.Native.Nat.{ℕ, _+_, _*_}
-use native.Mathlib.Omega.{arith}
+use Prim.Native.Nat.{ℕ}
 use borrow.Author.Needs.{needs}
 use borrow.Author.Tests.{not-true, not-false}
-use lib.IntN.{pos}
+use lib.IntN.{ℤ, pos}
 use mir.Syntax.{w32}
-use mir.Val.{SFits, toZ, ofZ}
+use mir.Val.{toZ, ofZ}
 use mir.Facts.{toZ-ofZ}
-use Rattle.rules.specs.declared.Kind.{Kind}
-use Rattle.rules.specs.Bytes.{signedAt}
-use Rattle.rules.specs.Sheet.{Sheet, sheetOf, rowOf, columnOf}
+use Rattle.rules.specs.Sheet.{rowOf, columnOf}
 use Rattle.rules.specs.Ranges.{rangeOf, kindAt, inRange}
 use Rattle.rules.specs.Refusals.{noFigureAt}
-use Rattle.ranges.specs.declared.Meaning.the-variants as Meaning
-use Rattle.ranges.specs.Meaning.{meaningAt, nothing-says, figure-says}
-use Rattle.entries.specs.declared.Entry.the-variants.{Figure}
-use Rattle.entries.specs.EntryRead.{placeOf}
-use Rattle.entries.proofs.ValueTests.{zero-value, out-of-range, in-range, row-of}
+use Rattle.ranges.specs.Read.{gives, gives-says, refused-says}
+use Rattle.ranges.specs.Meaning.{meaningOf, meaningAt}
+use Rattle.entries.specs.EntryRead.{placeOf, entryOf}
+use Rattle.entries.proofs.Tests.{no-entry, zero-value, out-of-range, in-range, place-asked}
 use Rattle.entries.proofs.read_entry.Statement.{statement}
 use Rattle.entries.proofs.read_entry.Tie as tie
 
--- what was read is the sheet's key, and what was found is the meaning of its place
-module _ (c : tie.After-meaning-at) where
-  abbrev start : tie.Start
-  start = c .before .before .before
-
-  abbrev S : Sheet
-  S = sheetOf (start .args .s .now)
-
-  abbrev i : ℕ
-  i = start .args .i
-
-  abbrev kind : Kind
-  kind = kindAt (S .materials) (rowOf (S .key i)) (columnOf (S .key i))
-
-  key-is : c .before .size-at .result ≡ S .key i
-  key-is = c .before .size-at .ensures .is
-
-  meaning-is : c .meaning-at .result ≡ meaningAt (S .materials) (S .limits) (rowOf (S .key i)) (columnOf (S .key i))
-  meaning-is =
-      c .meaning-at .ensures
-      ∙ (λ j. meaningAt (start .pre .materials j) (start .pre .limits j) (rowOf (key-is j)) (columnOf (key-is j)))
-
-  figure-there : noFigureAt (S .materials) (S .limits) (rowOf (S .key i)) (columnOf (S .key i)) ≡ false
-  figure-there =
-      (λ j. noFigureAt (sym (start .pre .materials) j) (sym (start .pre .limits) j) (rowOf (S .key i)) (columnOf (S .key i)))
-      ∙ start .pre .good
-
 returns : tie.Need-returns
+unfolding entryOf meaningOf meaningAt
 returns c =
-    let a = c .before .before in
-    let nothing = nothing-says _ _ _ _ (sym (meaning-is a) ∙ c .enum-told .given .1) in
-    let figure = figure-there a in
-    let z : _≡_ {A = ℕ} 0 1 = cc in
-    absurd (omega arith)
+    let none-there = refused-says 5 5 _ _ (sym (c .before .before .meaning-at .ensures) ∙ ap meaningOf (c .enum-told .given .1)) in
+    sym (no-entry _ _ _ _ none-there)
 
--- the kind is the one that the row decides, and what was read is the sheet's value
-module _ (c : tie.After-signed-32) where
-  abbrev a : tie.After-meaning-at
-  a = c .before .before .before .before
+-- a figure stands there, of the kind that was found
+module _ (c : tie.After-known-told) where
+  abbrev start : tie.Start
+  start = c .before .before .before .before
 
-  kind-is : c .before .before .meaning .given .0 .0 ≡ kind a
-  kind-is = sym (figure-says _ _ _ _ (sym (meaning-is a) ∙ c .before .before .meaning .given .1) .1)
+  abbrev n : ℕ
+  n = start .args .n
 
-  value-is : c .signed-32 .result ≡ S a .value (i a)
-  value-is = c .signed-32 .ensures ∙ (λ j. signedAt 4 (start a .args .s .now) (12 + 2 * start a .pre .entries j + 4 * i a))
+  abbrev m : ℕ
+  m = start .args .m
 
-  value-kept : toZ w32 (ofZ w32 (c .signed-32 .result)) ≡ S a .value (i a)
-  value-kept = let fits : SFits w32 (c .signed-32 .result) = search needs in toZ-ofZ fits ∙ value-is
+  abbrev key : ℕ
+  key = start .args .key
+
+  abbrev value : ℤ
+  value = start .args .value
+
+  figure : (noFigureAt n m (rowOf key) (columnOf key) ≡ false) × (kindAt n (rowOf key) (columnOf key) ≡ c .before .meaning .given .0 .0)
+  unfolding meaningOf meaningAt
+  figure = gives-says 5 _ _ _ (sym (c .before .before .before .meaning-at .ensures) ∙ ap meaningOf (c .before .meaning .given .1))
+
+  value-kept : toZ w32 (ofZ w32 value) ≡ value
+  value-kept = toZ-ofZ (start .fits .value)
 
 returns-2 : tie.Need-returns-2
+unfolding entryOf
 returns-2 c =
-    let b = c .before in
-    sym (zero-value (S (a b)) (i (a b)) (sym (value-kept b) ∙ ap (toZ w32) (c .if1 .taken)))
+    let f = c .before in
+    sym (zero-value (n f) (m f) (key f) (value f) (figure f .0) (sym (value-kept f) ∙ ap (toZ w32) (c .if1 .taken)))
 
--- the tests, in the definition's terms
+-- the value is not 0, and its range is that of the kind
 module _ (c : tie.After-in-range) where
-  abbrev b : tie.After-signed-32
-  b = c .before .before
+  abbrev f : tie.After-known-told
+  f = c .before .before
 
-  nonzero : S (a b) .value (i (a b)) ≡ pos 0 → ⊥
-  nonzero e = c .before .if1 .left (ap (ofZ w32) (value-is b ∙ e))
+  other : value f ≡ pos 0 → ⊥
+  other e = c .before .if1 .left (ap (ofZ w32) e)
 
-  range-is : inRange (rangeOf (kind (a b))) (S (a b) .value (i (a b))) ≡ c .in-range .result
-  range-is = sym (c .in-range .ensures ∙ (λ j. inRange (rangeOf (kind-is b j)) (value-kept b j)))
+  range : inRange (rangeOf (kindAt (n f) (rowOf (key f)) (columnOf (key f)))) (value f) ≡ c .in-range .result
+  range = (λ j. inRange (rangeOf (figure f .1 j)) (sym (value-kept f) j)) ∙ sym (c .in-range .ensures)
 
 returns-3 : tie.Need-returns-3
+unfolding entryOf
 returns-3 c =
-    let r = c .before in
-    sym (out-of-range (S (a (b r))) (i (a (b r))) (nonzero r) (range-is r ∙ not-true _ (c .if2 .taken)))
+    let t = c .before in
+    sym (out-of-range (n (f t)) (m (f t)) (key (f t)) (value (f t)) (figure (f t) .0) (other t) (range t ∙ not-true _ (c .if2 .taken)))
 
 place-of-requires : tie.Need-place-of-requires
 place-of-requires c κs =
-    let s = b (c .before) in
-    let q = a s in
-    row-of (S q .materials) (kind-is s) (key-is q) (q .before .size-at .ensures .small)
+    let g = f (c .before) in
+    place-asked (n g) (m g) (key g) (start g .pre .few) (figure g .0) (figure g .1)
 
 returns-4 : tie.Need-returns-4
+unfolding entryOf
 returns-4 c =
-    let r = c .before .before in
-    let s = b r in
-    let q = a s in
-    let place = c .place-of .ensures ∙ (λ j. placeOf (kind-is s j) (rowOf (key-is q j)) (columnOf (key-is q j))) in
-    (λ j. Figure (kind-is s j) (place j) (value-kept s j))
-    ∙ sym (in-range (S q) (i q) (nonzero r) (range-is r ∙ not-false _ (c .before .if2 .left)))
+    let t = c .before .before in
+    let g = f t in
+    let kind = sym (figure g .1) in
+    let place = c .place-of .ensures ∙ (λ j. placeOf (kind j) (rowOf (key g)) (columnOf (key g))) in
+    (λ j. gives (record { kind = kind j; place = place j; value = value-kept g j }))
+    ∙ sym (in-range (n g) (m g) (key g) (value g) (figure g .0) (other t) (range t ∙ not-false _ (c .before .if2 .left)))
 
 pub read-entry-spec : {M : Type 1} → statement M
 read-entry-spec =
@@ -114,15 +93,7 @@ read-entry-spec =
     (search needs)
     (search needs)
     (search needs)
-    (search needs)
-    (search needs)
-    (search needs)
     returns
-    (search needs)
-    (search needs)
-    (search needs)
-    (search needs)
-    (search needs)
     returns-2
     (search needs)
     returns-3

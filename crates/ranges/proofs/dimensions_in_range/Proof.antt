@@ -1,9 +1,9 @@
-use Prim.Native.Nat.{ℕ, _+_, _*_, _≤_}
-use mathlib.Core.Path.{_≡_}
+use Prim.Native.Nat.{ℕ, _+_, _*_, _≤_, zero-le}
+use mathlib.Core.Path.{_≡_, refl}
 use mathlib.Core.Bool.{true, _&&_, and-eq-true-iff}
 use native.Mathlib.Omega.{arith}
 use borrow.Author.Needs.{needs}
-use borrow.Author.Tests.{leb-true}
+use borrow.Author.Tests.{le-leb, leb-true}
 use Rattle.rules.specs.Ranges.{between, dimensionsInRange}
 use Rattle.laws.specs.Sizes.{few-entries}
 use Rattle.ranges.proofs.dimensions_in_range.Statement.{statement}
@@ -20,18 +20,18 @@ few n m h =
 passed : (c : tie.Then1) → let a = c .before .before .before .args in (between 1 32 (a .n) && between 0 16 (a .m)) ≡ true
 passed c = rw (c .before .before .between .ensures, c .before .between2 .ensures) at (c .if1 .taken)
 
-add-between : tie.Need-add-between
-add-between c = omega (arith, few _ _ (passed c))
+add-result : tie.Need-add-result
+add-result c = omega (arith, few _ _ (passed c))
 
-mul-between : tie.Need-mul-between
-mul-between c = omega (arith, few _ _ (passed c))
+mul-result : tie.Need-mul-result
+mul-result c = omega (arith, few _ _ (passed c))
 
-add-between-2 : tie.Need-add-between-2
-add-between-2 c = omega (arith, few _ _ (passed c))
+add-result-2 : tie.Need-add-result-2
+add-result-2 c = omega (arith, few _ _ (passed c))
 
 returns : tie.Need-returns
-unfolding dimensionsInRange
-returns c = rw (passed (c .before)) (c .between3 .ensures)
+unfolding dimensionsInRange between
+returns c = rw (passed c, le-leb 0 (c .before .before .before .args .e) zero-le) refl
 
 returns-2 : tie.Need-returns-2
 unfolding dimensionsInRange
@@ -43,9 +43,8 @@ dimensions-in-range-spec =
     (tie.spec
     (search needs)
     (search needs)
-    add-between
-    mul-between
-    add-between-2
-    (search needs)
+    add-result
+    mul-result
+    add-result-2
     returns
     returns-2)

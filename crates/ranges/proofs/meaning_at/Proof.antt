@@ -3,6 +3,7 @@ use mathlib.Core.Path.{_∙_}
 use native.Mathlib.Omega.{arith}
 use borrow.Author.Needs.{needs}
 use Rattle.rules.specs.Ranges.{kindAt}
+use Rattle.ranges.specs.Meaning.{meaningOf}
 use Rattle.ranges.proofs.Rows.{material-row, limit-row, no-row}
 use Rattle.ranges.proofs.meaning_at.Statement.{statement}
 use Rattle.ranges.proofs.meaning_at.Tie as tie
@@ -23,9 +24,11 @@ returns-4 : tie.Need-returns-4
 returns-4 c = c .of-limit .ensures ∙ limit-row _ _ _ _ (omega arith) (omega arith)
 
 returns-5 : tie.Need-returns-5
+unfolding meaningOf
 returns-5 c = no-row _ _ _ _ (omega arith)
 
 returns-6 : tie.Need-returns-6
+unfolding meaningOf
 returns-6 c = no-row _ _ _ _ (omega arith)
 
 pub meaning-at-spec : {M : Type 1} → statement M

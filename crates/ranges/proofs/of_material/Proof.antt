@@ -6,18 +6,19 @@ use mathlib.Core.Logic.{inl, inr}
 use native.Mathlib.Nat.{eq-or-lt-of-le}
 use native.Mathlib.Omega.{arith}
 use borrow.Author.Tests.{lt-ltb, le-ltb, eq-eqb, ne-eqb}
-use Rattle.ranges.specs.Meaning.{unless}
+use Rattle.ranges.specs.Meaning.{meaningOf}
+use Rattle.ranges.specs.Read.{unless}
 use Rattle.ranges.proofs.of_material.Statement.{statement}
 use Rattle.ranges.proofs.of_material.Tie as tie
 
 returns : tie.Need-returns
-unfolding unless
+unfolding meaningOf unless
 returns c =
     let from : c .before .args .n ≤ c .before .args .column = omega arith in
     elim (eq-or-lt-of-le from) [ inl e ↦ rw (eq-eqb _ _ (sym e), or-true) | inr l ↦ rw (lt-ltb _ _ l) ]
 
 returns-2 : tie.Need-returns-2
-unfolding unless
+unfolding meaningOf unless
 returns-2 c =
     let a = c .before .args in
     rw (le-ltb (a .n) (a .column) (omega arith), ne-eqb (a .column) (a .n) (λ e. omega arith))

@@ -2,7 +2,7 @@
 use mathlib.Core.Path.{_≡_, sym, ap, _∙_}
 use mathlib.Core.Bool.{Bool, true, false}
 use mathlib.Core.List.{List}
-use mathlib.Core.Option.{Option, none}
+use mathlib.Core.Option.{none}
 use Prim.Native.Nat.{ℕ, _-_, _≤_}
 use native.Mathlib.Omega.{arith}
 use lib.IntN.{ℤ}
@@ -12,18 +12,18 @@ use mir.Val.{SFits, toZ, ofZ}
 use mir.Facts.{toZ-ofZ}
 use borrow.Author.Needs.{needs}
 use Rattle.integer.specs.Vector.{at}
-use Rattle.rules.specs.Refusals.{Numbered, numberOf, numbered, refuse, firstBelow}
-use Rattle.laws.specs.FirstPlace.{refuse-yes, refuse-no, first-start, first-more, first-found, first-end}
+use Rattle.rules.specs.Refusals.{numberOf, numbered}
+use Rattle.laws.specs.FirstPlace.{first-start, first-end, scan, scan-more, scan-found}
 use Rattle.reader.specs.Reading.{refusalOf}
 use Rattle.reader.specs.Passes.{crossedRefusal}
 use Rattle.reader.proofs.check_bounds.Statement.{statement}
 use Rattle.reader.proofs.check_bounds.Tie as tie
 
-abbrev test : List ℤ → List ℤ → ℕ → Option Numbered
-test least most j = refuse 7 j (ltZ (at most j) (at least j))
+abbrev crossed : List ℤ → List ℤ → ℕ → Bool
+crossed least most j = ltZ (at most j) (at least j)
 
 abbrev Inv-loop : tie.InvT-loop
-Inv-loop n least most j₀ j = (j ≤ n) × (firstBelow j (test least most) ≡ none)
+Inv-loop n least most j₀ j = (j ≤ n) × (scan 7 (crossed least most) j ≡ none)
 
 abbrev μ-loop : tie.MeasureT-loop
 μ-loop n least most j₀ j = n - j
@@ -45,7 +45,7 @@ module _ (c : tie.After-if13 Inv-loop μ-loop) where
   abbrev most : List ℤ
   most = s .args .most .now
 
-  before : firstBelow j (test least most) ≡ none
+  before : scan 7 (crossed least most) j ≡ none
   before = c .before .before .before .loop .inv .1
 
   test-is : (b : Bool) → ltZ (toZ w16 (ofZ w16 (at most j))) (toZ w16 (ofZ w16 (at least j))) ≡ b → ltZ (at most j) (at least j) ≡ b
@@ -59,12 +59,12 @@ unfolding refusalOf numbered numberOf crossedRefusal
 returns c =
     let a = c .before .before in
     ap refusalOf (c .refused .ensures)
-    ∙ sym (first-found (test (least a) (most a)) (s a .args .n) (omega arith) (before a) (refuse-yes 7 (j a) (test-is a true (c .before .if1 .taken))))
+    ∙ sym (scan-found 7 (crossed (least a) (most a)) (s a .args .n) (omega arith) (before a) (test-is a true (c .before .if1 .taken)))
 
 loop-again : tie.Need-loop-again Inv-loop μ-loop
 loop-again c =
     let a = c .before in
-    (omega arith, first-more (test (least a) (most a)) (before a) (refuse-no 7 (j a) (test-is a false (c .if1 .left))))
+    (omega arith, scan-more 7 (crossed (least a) (most a)) (before a) (test-is a false (c .if1 .left)))
 
 returns-2 : tie.Need-returns-2 Inv-loop μ-loop
 unfolding refusalOf crossedRefusal

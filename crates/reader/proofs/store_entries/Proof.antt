@@ -1,8 +1,9 @@
 -- The values of the entries below i are good and stored.
 use mathlib.Core.Path.{_≡_, sym, ap, _∙_}
+use mathlib.Core.Bool.{false}
 use mathlib.Core.List.{List}
-use mathlib.Core.Option.{Option, none}
-use Prim.Native.Nat.{ℕ, _+_, _-_, _≤_}
+use mathlib.Core.Option.{none}
+use Prim.Native.Nat.{ℕ, _+_, _-_, _*_, _≤_, _<_}
 use native.Mathlib.Omega.{arith}
 use lib.IntN.{ℤ}
 use mir.Syntax.{w32}
@@ -11,27 +12,25 @@ use mir.Facts.{toZ-ofZ}
 use borrow.Author.Needs.{needs}
 use Rattle.rules.specs.declared.Kind.{Kind}
 use Rattle.rules.specs.declared.Kind.the-variants.{Cost, Least, Most, Coefficient, Bound}
+use Rattle.rules.specs.Bytes.{signedAt}
 use Rattle.rules.specs.Sheet.{Sheet, sheetOf, rowOf, columnOf}
-use Rattle.rules.specs.Refusals.{Numbered, numberOf, numbered, refuse, firstBelow, noFigureAt, badValue}
-use Rattle.laws.specs.Entries.{FigureAt, figure-at}
-use Rattle.laws.specs.FirstPlace.{refuse-yes, refuse-no, first-start, first-more, first-found, first-end}
-use Rattle.entries.specs.declared.Entry.the-variants.{Figure}
+use Rattle.rules.specs.Refusals.{numberOf, numbered, noFigureAt, badValue}
+use Rattle.laws.specs.FirstPlace.{first-start, first-end, scan, scan-more, scan-found}
+use Rattle.ranges.specs.Read.{gives, refused-says}
+use Rattle.entries.specs.EntryRead.{Placed, entryOf, entryRead}
+use Rattle.entries.specs.Store.{Storable, storeIf}
 use Rattle.reader.specs.declared.Verdict.{Verdict}
 use Rattle.reader.specs.Reading.{refusalOf}
-use Rattle.entries.specs.Store.{Storable, storeIf}
 use Rattle.reader.specs.Passes.{Stored, storedBy, valueRefusal, arrayAfter}
 use Rattle.reader.proofs.Header.{materials-is, limits-is, entries-is, in-range, narrow, few, figure-there}
-use Rattle.entries.specs.EntryRead.{entryRead, figure-says, bad-says}
-use Rattle.reader.proofs.Stored.{entry-fits, entry-stored}
+use Rattle.reader.proofs.Entry.{value-test}
+use Rattle.reader.proofs.Stored.{entry-good, entry-fits, entry-stored}
 use Rattle.reader.proofs.store_entries.Statement.{statement}
 use Rattle.reader.proofs.store_entries.Tie as tie
 
-abbrev test : Sheet → ℕ → Option Numbered
-test S i = refuse 6 i (badValue S i)
-
 record Turn (S : Sheet) (e : ℕ) (cost least most coefficient bound : List ℤ) (i : ℕ) : Type 0 where
   within : i ≤ e
-  values : firstBelow i (test S) ≡ none
+  values : scan 6 (badValue S) i ≡ none
   arrays : Stored S i cost least most coefficient bound
 
 counted : {S : Sheet} {i k : ℕ} {cost least most coefficient bound : List ℤ} → i ≡ k → Stored S i cost least most coefficient bound → Stored S k cost least most coefficient bound
@@ -48,76 +47,69 @@ loop-holds : tie.Need-loop-holds Inv-loop μ-loop
 loop-holds c = record { within = omega arith; values = first-start _; arrays = c .before .pre .empty }
 
 read-entry-requires : tie.Need-read-entry-requires Inv-loop μ-loop
-read-entry-requires c κs =
-    let k = c .before .before .before .pre .keyed in
-    let h = k .headed in
-    let S = sheetOf (c .before .before .before .args .s .now) in
-    let i = c .before .loop .i in
-    record {
-      materials = materials-is h;
-      limits = limits-is h;
-      entries = entries-is h;
-      few = in-range h .few;
-      long = h .long;
-      inside = omega arith;
-      good =
-          (λ j. noFigureAt (materials-is h j) (limits-is h j) (rowOf (S .key i)) (columnOf (S .key i)))
-          ∙ figure-there k i (omega (arith, entries-is h));
-    }
+read-entry-requires c κs = record { few = in-range (c .before .before .before .before .before .pre .keyed .headed) .few }
 
-returns : tie.Need-returns Inv-loop μ-loop
-unfolding refusalOf numbered numberOf valueRefusal storedBy
-returns c =
-    let b = c .before in
-    let a = b .before .before in
-    let l = a .before .before .loop in
-    let s = a .before .before .before .before in
-    let S = sheetOf (s .args .s .now) in
-    let bad = bad-says S (l .i) (sym (a .read-entry .ensures) ∙ b .enum-told .given .1) in
-    let e = entries-is (s .pre .keyed .headed) in (
-      ap refusalOf (c .refused .ensures) ∙ sym (first-found (test S) (S .entries) (omega (arith, e)) (l .inv .values) (refuse-yes 6 (l .i) bad)),
-      counted (sym (ap (λ (v : Verdict). storedBy v (s .args .sizes .entries)) (c .refused .ensures))) (l .inv .arrays),
-    )
-
--- what was read is entry i of the sheet
-module _ (c : tie.After-known-told Inv-loop μ-loop) where
+-- what was read is entry i, whose key stands for a figure
+module _ (c : tie.After-read-entry Inv-loop μ-loop) where
   abbrev start : tie.Start Inv-loop μ-loop
-  start = c .before .before .before .before .before .before .before
-
-  abbrev turn : tie.At-loop Inv-loop μ-loop
-  turn = c .before .before .before .before .before
+  start = c .before .before .before .before .before .before
 
   abbrev S : Sheet
   S = sheetOf (start .args .s .now)
 
+  abbrev turn : tie.At-loop Inv-loop μ-loop
+  turn = c .before .before .before .before
+
   abbrev i : ℕ
   i = turn .loop .i
 
-  abbrev kind : Kind
-  kind = c .before .entry .given .0 .0
+  inside : i < S .entries
+  inside = omega (arith, entries-is (start .pre .keyed .headed))
 
-  abbrev place : ℕ
-  place = c .before .entry .given .0 .1 .0
+  there : noFigureAt (S .materials) (S .limits) (rowOf (S .key i)) (columnOf (S .key i)) ≡ false
+  there = figure-there (start .pre .keyed) i inside
 
-  abbrev value : ℤ
-  value = c .before .entry .given .0 .1 .1 .0
-
-  read : entryRead S i ≡ Figure kind place value
-  read = sym (c .before .before .before .read-entry .ensures) ∙ c .before .entry .given .1
-
-  value-kept : toZ w32 (ofZ w32 value) ≡ value
-  value-kept = let fits : SFits w32 value = search needs in toZ-ofZ fits
-
-  figure : FigureAt (S .materials) (S .limits) (rowOf (S .key i)) (columnOf (S .key i))
-  figure = let k = start .pre .keyed in figure-at _ _ _ _ (figure-there k i (omega (arith, entries-is (k .headed))))
-
-  fits : Storable kind place value
-  fits = let h = start .pre .keyed .headed in entry-fits S i (narrow h) (few h) figure read
-
-  after : (mine : Kind) {array : List ℤ} → array ≡ arrayAfter S mine i → storeIf mine kind place (toZ w32 (ofZ w32 value)) array ≡ arrayAfter S mine (i + 1)
-  after mine {array} e =
+  read-is : entryOf (c .read-entry .result) ≡ entryRead (S .materials) (S .limits) (S .key i) (S .value i)
+  read-is =
       let h = start .pre .keyed .headed in
-      (λ j. storeIf mine kind place (value-kept j) array) ∙ entry-stored S i (narrow h) (few h) figure read mine e
+      let value = c .before .signed-32 .result in
+      let fits : SFits w32 value = search needs in
+      let same : toZ w32 (ofZ w32 value) ≡ S .value i
+      = toZ-ofZ fits ∙ c .before .signed-32 .ensures ∙ (λ j. signedAt 4 (start .args .s .now) (12 + 2 * entries-is h j + 4 * i)) in
+      c .read-entry .ensures ∙ (λ j. entryRead (materials-is h j) (limits-is h j) (c .before .before .size-at .ensures .is j) (same j))
+
+returns : tie.Need-returns Inv-loop μ-loop
+unfolding refusalOf numbered numberOf valueRefusal storedBy entryOf entryRead
+returns c =
+    let a = c .before .before .before in
+    let bad = sym (value-test (S a) (i a) (there a)) ∙ refused-says 6 6 _ _ (sym (read-is a) ∙ ap entryOf (c .before .enum-told .given .1)) in (
+      ap refusalOf (c .refused .ensures) ∙ sym (scan-found 6 (badValue (S a)) (S a .entries) (inside a) (turn a .loop .inv .values) bad),
+      counted (sym (ap (λ (v : Verdict). storedBy v (start a .args .sizes .entries)) (c .refused .ensures))) (turn a .loop .inv .arrays),
+    )
+
+-- the entry is good, and goes to its place
+module _ (c : tie.After-known-told Inv-loop μ-loop) where
+  abbrev a : tie.After-read-entry Inv-loop μ-loop
+  a = c .before .before .before
+
+  abbrev placed : Placed
+  placed = record { kind = c .before .entry .given .0 .0; place = c .before .entry .given .0 .1 .0; value = c .before .entry .given .0 .1 .1 .0 }
+
+  read : entryRead (S a .materials) (S a .limits) (S a .key (i a)) (S a .value (i a)) ≡ gives placed
+  unfolding entryOf
+  read = sym (read-is a) ∙ ap entryOf (c .before .entry .given .1)
+
+  value-kept : toZ w32 (ofZ w32 (placed .value)) ≡ placed .value
+  value-kept = let fits : SFits w32 (placed .value) = search needs in toZ-ofZ fits
+
+  fits : Storable (placed .kind) (placed .place) (placed .value)
+  fits = let h = start a .pre .keyed .headed in entry-fits (S a) (i a) (narrow h) (few h) (there a) read
+
+  after : (mine : Kind) {array : List ℤ} → array ≡ arrayAfter (S a) mine (i a)
+      → storeIf mine (placed .kind) (placed .place) (toZ w32 (ofZ w32 (placed .value))) array ≡ arrayAfter (S a) mine (i a + 1)
+  after mine {array} e =
+      let h = start a .pre .keyed .headed in
+      (λ j. storeIf mine (placed .kind) (placed .place) (value-kept j) array) ∙ entry-stored (S a) (i a) (narrow h) (few h) (there a) read mine e
 
 store-requires : tie.Need-store-requires Inv-loop μ-loop
 store-requires c κs = let k = c .before .before .before .before .before in rw (value-kept k) (fits k)
@@ -125,11 +117,12 @@ store-requires c κs = let k = c .before .before .before .before .before in rw (
 loop-again : tie.Need-loop-again Inv-loop μ-loop
 loop-again c =
     let k = c .before .before .before .before .before .before in
-    let t = turn k .loop .inv in
+    let h = start (a k) .pre .keyed .headed in
+    let t = turn (a k) .loop .inv in
     let (cost, (least, (most, (coefficient, bound)))) = c .store .ensures in
     record {
       within = omega arith;
-      values = first-more (test (S k)) (t .values) (refuse-no 6 (i k) (figure-says (S k) (i k) (read k) .good));
+      values = scan-more 6 (badValue (S (a k))) (t .values) (entry-good (S (a k)) (i (a k)) (narrow h) (few h) (there (a k)) (read k));
       arrays = record {
         costs = cost ∙ after k Cost (t .arrays .costs);
         leasts = least ∙ after k Least (t .arrays .leasts);
@@ -144,10 +137,8 @@ unfolding refusalOf valueRefusal storedBy
 returns-2 c =
     let l = c .before .loop in
     let s = c .before .before .before in
-    let S = sheetOf (s .args .s .now) in
-    let e = entries-is (s .pre .keyed .headed) in
     let all : l .i ≡ s .args .sizes .entries = omega arith in
-    (sym (first-end (test S) (all ∙ e) (l .inv .values)), counted all (l .inv .arrays))
+    (sym (first-end _ (all ∙ entries-is (s .pre .keyed .headed)) (l .inv .values)), counted all (l .inv .arrays))
 
 pub store-entries-spec : {M : Type 1} → statement M
 store-entries-spec =
@@ -156,6 +147,14 @@ store-entries-spec =
     Inv-loop
     μ-loop
     loop-holds
+    (search needs)
+    (search needs)
+    (search needs)
+    (search needs)
+    (search needs)
+    (search needs)
+    (search needs)
+    (search needs)
     read-entry-requires
     (search needs)
     (search needs)
