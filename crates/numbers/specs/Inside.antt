@@ -1,11 +1,8 @@
 -- A number of w bytes at place o of s: what reading it asks and gives.
-use Prim.Native.Nat.{ℕ, _+_, _/_, _^_, _<_, _≤_}
+use Prim.Native.Nat.{ℕ, _+_, _<_, _≤_}
 use mathlib.Core.Path.{_≡_}
-use mathlib.Core.Bool.{cond}
 use mathlib.Core.List.{List}
 use lib.ListN.{length}
-use lib.Dec.{ltb}
-use lib.IntN.{ℤ, pos, _-ℤ_}
 use Rattle.rules.specs.Bytes.{unsignedAt}
 
 -- its bytes stand in s
@@ -16,7 +13,3 @@ pub record Inside (w : ℕ) (s : List ℕ) (o : ℕ) : Type 0 where
 pub record Size (s : List ℕ) (o r : ℕ) : Type 0 where
   pub is : r ≡ unsignedAt 2 s o
   pub small : r < 65536
-
--- the signed number with the w bytes of v: `signedAt` is that of `unsignedAt`
-unfoldable pub signedOf : ℕ → ℕ → ℤ
-signedOf w v = cond (ltb v (256 ^ w / 2)) (pos v) (pos v -ℤ pos (256 ^ w))

@@ -1,2 +1,2 @@
--- What the functions of this crate ask of a slice, and how a signed number follows from an unsigned one.
+-- What reading a number asks of a slice, and what it gives.
 pub mod Inside

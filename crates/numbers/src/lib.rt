@@ -1,8 +1,8 @@
 // Little-endian numbers out of a slice of bytes.
 ghost use mathlib.Core.Path.{_≡_};
 ghost use Prim.Native.Nat.{_<_};
-ghost use Rattle.rules.specs.Bytes.{unsignedAt, signedAt};
-ghost use Rattle.numbers.specs.Inside.{Inside, Size, signedOf};
+ghost use Rattle.rules.specs.Bytes.{unsignedAt, signedOf, signedAt};
+ghost use Rattle.numbers.specs.Inside.{Inside, Size};
 
 // A byte in 16 bits.
 fn wide_16(b: u8) -> u16
@@ -12,7 +12,7 @@ fn wide_16(b: u8) -> u16
 }
 
 // The unsigned number in the 2 bytes from place `at` on.
-pub fn unsigned_16(s: &[u8], at: usize) -> u16
+fn unsigned_16(s: &[u8], at: usize) -> u16
     requires { ⌜ Inside 2 (now s) at ⌝ }
     ensures { λ r. ⌜ r ≡ unsignedAt 2 (now (s .entry)) at ⌝ }
 {

@@ -17,8 +17,8 @@ use Rattle.figures.specs.Arrays.{row-holds}
 use Rattle.figures.specs.Figures.{figuresOf, figures-hold}
 use Rattle.reader.specs.declared.Reading.{Reading}
 use Rattle.reader.specs.declared.Sizes.{Sizes}
-use Rattle.reader.specs.Reading.{figuresUnless, Reads, ReadsAs}
-use Rattle.reader.specs.Passes.{sizesOf, headerRefusal, keyRefusal, valueRefusal, crossedRefusal, boundRefusal, figuresRefusal}
+use Rattle.reader.specs.Reading.{figuresUnless, Reads}
+use Rattle.reader.specs.Passes.{ReadsAs, sizesOf, headerRefusal, keyRefusal, valueRefusal, crossedRefusal, boundRefusal, figuresRefusal}
 
 -- the arrays of the figures say the same
 pub crossed-is : (S : Sheet) → S .materials ≤ 32 → let F = figuresOf (problem S) (S .steps) in crossedRefusal (F .materials) (F .least) (F .most) ≡ boundRefusal S
@@ -58,9 +58,9 @@ module _ (long : ℕ) (z : Sizes) where
       (not-false _ (refuse-false 2 0 _ dimensions), eqb-true _ _ (not-false _ (refuse-false 3 0 _ length)))
 
 -- ---- a reading of the sheet has each figure at its place
-pub placed : (s : List ℕ) {r : Reading} → ReadsAs (sheetOf s) (layoutRefusal s) r → Reads s r
+pub reads : (s : List ℕ) {r : Reading} → ReadsAs (sheetOf s) (layoutRefusal s) r → Reads s r
 unfolding layoutRefusal figuresUnless problem
-placed s {r} reading = record {
+reads s {r} reading = record {
   verdict = reading .verdict;
   figures = reading .figures;
   places =

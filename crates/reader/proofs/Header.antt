@@ -1,4 +1,4 @@
--- Refusals 2 to 4, link by link.
+-- Refusals 2 to 4, link by link, and what a sheet that passed them has.
 use mathlib.Core.Path.{_≡_, ap}
 use mathlib.Core.Bool.{Bool, true, false}
 use mathlib.Core.List.{List}

@@ -6,7 +6,8 @@ use Rattle.rules.specs.Refusals.{Numbered}
 use Rattle.figures.specs.Figures.{figuresOf}
 use Rattle.reader.specs.declared.Verdict.{Verdict}
 use Rattle.reader.specs.declared.Reading.{Reading}
-use Rattle.reader.specs.Reading.{refusalOf, figuresUnless, withoutFigures, ReadsAs}
+use Rattle.reader.specs.Reading.{refusalOf, figuresUnless}
+use Rattle.reader.specs.Passes.{withoutFigures, ReadsAs}
 
 module _ (S : Sheet) {refusal : Option Numbered} {r : Reading} where
   pub turned-back : (v : Verdict) {x : Numbered} → r ≡ withoutFigures v → refusalOf v ≡ some x → refusal ≡ some x → ReadsAs S refusal r

@@ -1,7 +1,7 @@
 -- Where the figures of each kind stand in its array: a place of the array and a row and column of the sheet give each other.
 use mathlib.Core.Path.{_≡_, refl, sym, ap, _∙_}
 use mathlib.Core.Bool.{Bool, true, false, cond, _&&_}
-use Prim.Native.Nat.{ℕ, zero, suc, _+_, _-_, _*_, _/_, _%_, _<_, _≤_}
+use Prim.Native.Nat.{ℕ, zero, suc, _+_, _-_, _/_, _%_, _<_, _≤_}
 use native.Mathlib.Omega.{arith}
 use borrow.Author.Tests.{lt-ltb, ltb-true, eqb-true, eqb-false}
 use lib.Dec.{ltb, eqb}
@@ -9,6 +9,7 @@ use Rattle.rules.specs.declared.Kind.{Kind}
 use Rattle.rules.specs.declared.Kind.the-variants.{Cost, Least, Most, Coefficient, Bound}
 use Rattle.rules.specs.Sheet.{figure}
 use Rattle.rules.specs.Ranges.{kindAt}
+use Rattle.figures.specs.Arrays.{row-parts}
 use Rattle.laws.specs.Entries.{FigureAt, coefficient-kind, bound-kind}
 use Rattle.figures.specs.Arrays as figures
 use Rattle.entries.specs.EntryRead.{placeOf}
@@ -43,10 +44,6 @@ pub record There (n m row column : ℕ) (kind : Kind) : Type 0 where
   pub same-row : rowAt kind (placeOf kind row column) ≡ row
   pub same-column : columnAt n kind (placeOf kind row column) ≡ column
 
--- place 32·i + j is place j of row i
-row-parts : (i j : ℕ) → j < 32 → ((32 * (suc (suc (suc i)) - 3) + j) / 32 ≡ i) × ((32 * (suc (suc (suc i)) - 3) + j) % 32 ≡ j)
-row-parts i j l = omega arith
-
 pub there : (n m row column : ℕ) → n ≤ 32 → m ≤ 16 → FigureAt n m row column → There n m row column (kindAt n row column)
 unfolding hasFigure rowAt columnAt kindAt placeOf roomOf
 there n m zero column narrow few h =
@@ -64,5 +61,7 @@ there n m (suc (suc (suc i))) column narrow few h = by (eqb column n) refl
     by true e = record { below = omega arith; figure = lt-ltb _ m (omega arith); same-row = omega arith; same-column = sym (eqb-true column n e) }
     by false e =
         let l : column < n = omega (arith, eqb-false column n e) in
-        let (q, r) = row-parts i column (omega arith) in
+        let three : suc (suc (suc i)) - 3 ≡ i = omega arith in
+        let (quotient, r) = row-parts (suc (suc (suc i)) - 3) column (omega arith) in
+        let q = quotient ∙ three in
         record { below = omega arith; figure = rw (q, r, lt-ltb i m (omega arith), lt-ltb column n l); same-row = ap (λ x. 3 + x) q ∙ omega arith; same-column = r }

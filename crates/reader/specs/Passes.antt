@@ -14,11 +14,14 @@ use Rattle.rules.specs.declared.Kind.the-variants.{Cost, Least, Most, Coefficie
 use Rattle.rules.specs.Sheet.{Sheet, sheetOf, sheetLength, valueUnder}
 use Rattle.rules.specs.Ranges.{dimensionsInRange, parametersInRange}
 use Rattle.rules.specs.Refusals.{Numbered, refuse, _otherwise_, firstBelow, badKey, badValue, crossed}
+use Rattle.figures.specs.Figures.{noFigures}
 use Rattle.figures.specs.Arrays.{placed, inRow, inRows}
 use Rattle.entries.specs.Store.{roomOf}
 use Rattle.reader.specs.declared.Verdict.{Verdict}
 use Rattle.reader.specs.declared.Verdict.the-variants.{Accepted, Refused}
+use Rattle.reader.specs.declared.Reading.{Reading}
 use Rattle.reader.specs.declared.Sizes.{Sizes}
+use Rattle.reader.specs.Reading.{refusalOf, figuresUnless}
 
 -- ---- the header
 -- the sizes of a sheet
@@ -118,3 +121,13 @@ boundRefusal S = firstBelow (S .materials) (λ j. refuse 7 j (crossed S j))
 
 unfoldable pub figuresRefusal : Sheet → Option Numbered
 figuresRefusal S = valueRefusal S otherwise boundRefusal S
+
+-- ---- the reading
+-- a reading of S that ends with this refusal, or with none
+pub record ReadsAs (S : Sheet) (refusal : Option Numbered) (r : Reading) : Type 0 where
+  pub verdict : refusalOf (r .verdict) ≡ refusal
+  pub figures : r .figures ≡ figuresUnless refusal S
+
+-- a verdict with no figures beside it
+unfoldable pub withoutFigures : Verdict → Reading
+withoutFigures v = record { verdict = v; figures = noFigures }

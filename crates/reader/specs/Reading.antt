@@ -26,12 +26,3 @@ pub record Reads (s : List ℕ) (r : Reading) : Type 0 where
   pub verdict : refusalOf (r .verdict) ≡ layoutRefusal s
   pub figures : r .figures ≡ figuresUnless (layoutRefusal s) (sheetOf s)
   pub places : layoutRefusal s ≡ none → Holds (problem (sheetOf s)) (r .figures)
-
--- a reading of S that ends with this refusal, or with none
-pub record ReadsAs (S : Sheet) (refusal : Option Numbered) (r : Reading) : Type 0 where
-  pub verdict : refusalOf (r .verdict) ≡ refusal
-  pub figures : r .figures ≡ figuresUnless refusal S
-
--- a verdict with no figures beside it
-unfoldable pub withoutFigures : Verdict → Reading
-withoutFigures v = record { verdict = v; figures = noFigures }

@@ -4,8 +4,8 @@ ghost use Prim.Native.Nat.{_≤_};
 ghost use lib.ListN.{length};
 ghost use Rattle.rules.specs.Sheet.{sheetOf};
 ghost use Rattle.figures.specs.Figures.{noFigures};
-ghost use Rattle.reader.specs.Reading.{refusalOf, withoutFigures, Reads, ReadsAs};
-ghost use Rattle.reader.specs.Passes.{Headed, Keyed, StoreAsked, Stored, storedBy, sizesOf, headerRefusal, keyRefusal, valueRefusal, crossedRefusal, figuresRefusal};
+ghost use Rattle.reader.specs.Reading.{refusalOf, Reads};
+ghost use Rattle.reader.specs.Passes.{withoutFigures, ReadsAs, Headed, Keyed, StoreAsked, Stored, storedBy, sizesOf, headerRefusal, keyRefusal, valueRefusal, crossedRefusal, figuresRefusal};
 use entries::Entry;
 use entries::Key;
 use entries::read_entry;
@@ -31,7 +31,7 @@ pub struct Reading {
     pub figures: Figures,
 }
 
-// The six sizes.
+// The six sizes: n, m, e, p, D and k.
 struct Sizes {
     materials: usize,
     limits: usize,
@@ -41,6 +41,7 @@ struct Sizes {
     steps: usize,
 }
 
+// The figures of a refused sheet.
 fn no_figures() -> Figures
     ensures { λ r. ⌜ r ≡ noFigures ⌝ }
 {
@@ -58,6 +59,7 @@ fn no_figures() -> Figures
     }
 }
 
+// A refusal, as the reading of a sheet.
 fn without_figures(verdict: Verdict) -> Reading
     ensures { λ r. ⌜ r ≡ withoutFigures verdict ⌝ }
 {
@@ -67,6 +69,7 @@ fn without_figures(verdict: Verdict) -> Reading
     }
 }
 
+// A refusal, as a verdict.
 fn refused(place: usize, cause: Cause) -> Verdict
     ensures { λ r. ⌜ r ≡ Verdict.Refused (record { place = place; cause = cause }) ⌝ }
 {
@@ -76,6 +79,7 @@ fn refused(place: usize, cause: Cause) -> Verdict
     })
 }
 
+// The sizes come first, 2 bytes each.
 fn sizes_of(s: &[u8]) -> Sizes
     requires { ⌜ 12 ≤ length (now s) ⌝ }
     ensures { λ r. ⌜ r ≡ sizesOf (now (s .entry)) ⌝ }

@@ -11,9 +11,13 @@ unfoldable pub unsignedAt : ℕ → List ℕ → ℕ → ℕ
 unsignedAt zero s o = 0
 unsignedAt (suc w) s o = getD s o 0 + 256 * unsignedAt w s (o + 1)
 
--- the signed number in them: from half of 256^w on, 256^w less
+-- w bytes that are v as an unsigned number, as a signed one: from half of 256^w on, 256^w less
+unfoldable pub signedOf : ℕ → ℕ → ℤ
+signedOf w v = cond (ltb v (256 ^ w / 2)) (pos v) (pos v -ℤ pos (256 ^ w))
+
+-- the signed number in the w bytes of s from place o on
 unfoldable pub signedAt : ℕ → List ℕ → ℕ → ℤ
-signedAt w s o = let v = unsignedAt w s o in cond (ltb v (256 ^ w / 2)) (pos v) (pos v -ℤ pos (256 ^ w))
+signedAt w s o = signedOf w (unsignedAt w s o)
 
 -- an unsigned number in w bytes
 unfoldable pub unsignedBytes : ℕ → ℕ → List ℕ

@@ -12,7 +12,7 @@ use Rattle.integer.specs.Sum.{sumTo}
 use Rattle.integer.specs.Vector.{tabulate}
 use Rattle.rules.specs.declared.Answer.{Answer}
 use Rattle.rules.specs.Problem.{costOf, loadOf}
-use Rattle.rules.specs.Bytes.{unsignedAt, signedAt, unsignedBytes, signedBytes}
+use Rattle.rules.specs.Bytes.{unsignedAt, signedOf, signedAt, unsignedBytes, signedBytes}
 use Rattle.rules.specs.Sheet.{valueUnder, figure, problem}
 use Rattle.rules.specs.Ranges.{ranges, indexOf, rangeOf, kindAt, inRange, between, dimensionsInRange, parametersInRange}
 use Rattle.rules.specs.Step.{anyBelow, reducedCost, amount, residual, dualValue, greatestCost, moved, stepFrom, infeasible, diverged, next}
@@ -75,7 +75,7 @@ lent room = replicate room 170
 
 -- What the definitions give is what the row says: the answer, the buffer afterwards and the listing. Whoever unfolds it computes with them all.
 unfoldable pub Holds : Row → Type 0
-unfolding sizes written nibble unspaced pairs outcome numbered numberOf maxℤ sumTo tabulate costOf loadOf unsignedAt signedAt unsignedBytes signedBytes valueUnder figure problem ranges indexOf rangeOf kindAt inRange between dimensionsInRange parametersInRange anyBelow reducedCost amount residual dualValue greatestCost moved stepFrom infeasible diverged next startingMultiplier start stateAfter stepAt gapAfter planAfter fields recordOf recordLength refuse _otherwise_ firstBelow noFigureAt notAbove badKey badValue crossed layoutRefusal refusalBeforeSteps stepRefusal refusal planOf outcomeOf answer bufferOf bufferAfter text digits decimal spaced line lines planText textOf listing
+unfolding sizes written nibble unspaced pairs outcome numbered numberOf maxℤ sumTo tabulate costOf loadOf unsignedAt signedOf signedAt unsignedBytes signedBytes valueUnder figure problem ranges indexOf rangeOf kindAt inRange between dimensionsInRange parametersInRange anyBelow reducedCost amount residual dualValue greatestCost moved stepFrom infeasible diverged next startingMultiplier start stateAfter stepAt gapAfter planAfter fields recordOf recordLength refuse _otherwise_ firstBelow noFigureAt notAbove badKey badValue crossed layoutRefusal refusalBeforeSteps stepRefusal refusal planOf outcomeOf answer bufferOf bufferAfter text digits decimal spaced line lines planText textOf listing
 Holds r =
     (answer (r .sheet) (r .room) ≡ outcome (r .answer)) ×
     (bufferAfter (r .sheet) (lent (r .room)) ≡ r .bytes ++ drop (length (r .bytes)) (lent (r .room))) ×

@@ -5,7 +5,7 @@ use mir.Val.{SFits}
 use mir.Facts.{toZ-ofZ}
 use borrow.Author.Needs.{needs}
 use Rattle.rules.specs.Bytes.{signedAt}
-use Rattle.numbers.specs.Inside.{signedOf}
+use Rattle.rules.specs.Bytes.{signedOf}
 use Rattle.numbers.proofs.signed_32.Statement.{statement}
 use Rattle.numbers.proofs.signed_32.Tie as tie
 

@@ -11,7 +11,7 @@ use Rattle.laws.specs.Sizes.{dimensions}
 use Rattle.laws.specs.FirstPlace.{given}
 use Rattle.reader.specs.Reading.{refusalOf}
 use Rattle.reader.specs.Passes.{Headed, sizesOf, headerRefusal, keyRefusal}
-use Rattle.reader.proofs.Chain.{placed, short, after-short, after-header, after-keys, header-says}
+use Rattle.reader.proofs.Chain.{reads, short, after-short, after-header, after-keys, header-says}
 use Rattle.reader.proofs.Outcome.{turned-back, told-as}
 use Rattle.reader.proofs.read_sheet.Statement.{statement}
 use Rattle.reader.proofs.read_sheet.Tie as tie
@@ -20,7 +20,7 @@ returns : tie.Need-returns
 unfolding refusalOf numbered numberOf
 returns c =
     let s = c .before .before .before .before .args .s .now in
-    placed s
+    reads s
     (turned-back (sheetOf s) (c .before .refused .result) (c .without-figures .ensures) (ap refusalOf (c .before .refused .ensures))
     (short s (c .before .before .if1 .taken)))
 
@@ -40,7 +40,7 @@ unfolding refusalOf
 returns-2 c =
     let a = c .before .before .before in
     let told = ap refusalOf (c .before .enum-told2 .given .1) in
-    placed (s a)
+    reads (s a)
     (turned-back (sheetOf (s a)) (a .check-header .result) (c .without-figures2 .ensures) told
     (after-short (s a) (long a) ∙ given _ (sym (header a) ∙ told)))
 
@@ -69,7 +69,7 @@ returns-3 c =
     let k = c .before .before .before in
     let h = k .before in
     let told = ap refusalOf (c .before .enum-told4 .given .1) in
-    placed (s (a h))
+    reads (s (a h))
     (turned-back (sheetOf (s (a h))) (k .check-keys .result) (c .without-figures3 .ensures) told
     (after-header (s (a h)) (long (a h)) (no-header h) ∙ given _ (sym (k .check-keys .ensures) ∙ told)))
 
@@ -89,7 +89,7 @@ returns-4 : tie.Need-returns-4
 returns-4 c =
     let k = c .before in
     let t = s (a (h k)) in
-    placed t (told-as (sheetOf t) (sym (after-keys t (long (a (h k))) (no-header (h k)) (no-keys k))) (c .read-figures .ensures))
+    reads t (told-as (sheetOf t) (sym (after-keys t (long (a (h k))) (no-header (h k)) (no-keys k))) (c .read-figures .ensures))
 
 pub read-sheet-spec : {M : Type 1} → statement M
 read-sheet-spec =

@@ -1,5 +1,5 @@
 -- A verdict, and beside it the figures of none.
-use Rattle.reader.specs.Reading.{withoutFigures}
+use Rattle.reader.specs.Passes.{withoutFigures}
 use borrow.Author.Needs.{needs}
 use Rattle.reader.proofs.without_figures.Statement.{statement}
 use Rattle.reader.proofs.without_figures.Tie as tie
