@@ -51,40 +51,40 @@ module _ (c : tie.After-known-told) where
 returns-2 : tie.Need-returns-2
 unfolding entryOf
 returns-2 c =
-    let f = c .before in
-    sym (zero-value (n f) (m f) (key f) (value f) (figure f .0) (sym (value-kept f) ∙ ap (toZ w32) (c .if1 .taken)))
+    let found = c .before in
+    sym (zero-value (n found) (m found) (key found) (value found) (figure found .0) (sym (value-kept found) ∙ ap (toZ w32) (c .if1 .taken)))
 
 -- the value is not 0, and its range is that of the kind
 module _ (c : tie.After-in-range) where
-  abbrev f : tie.After-known-told
-  f = c .before .before
+  abbrev found : tie.After-known-told
+  found = c .before .before
 
-  other : value f ≡ pos 0 → ⊥
+  other : value found ≡ pos 0 → ⊥
   other e = c .before .if1 .left (ap (ofZ w32) e)
 
-  range : inRange (rangeOf (kindAt (n f) (rowOf (key f)) (columnOf (key f)))) (value f) ≡ c .in-range .result
-  range = (λ j. inRange (rangeOf (figure f .1 j)) (sym (value-kept f) j)) ∙ sym (c .in-range .ensures)
+  range : inRange (rangeOf (kindAt (n found) (rowOf (key found)) (columnOf (key found)))) (value found) ≡ c .in-range .result
+  range = (λ j. inRange (rangeOf (figure found .1 j)) (sym (value-kept found) j)) ∙ sym (c .in-range .ensures)
 
 returns-3 : tie.Need-returns-3
 unfolding entryOf
 returns-3 c =
-    let t = c .before in
-    sym (out-of-range (n (f t)) (m (f t)) (key (f t)) (value (f t)) (figure (f t) .0) (other t) (range t ∙ not-true _ (c .if2 .taken)))
+    let tested = c .before in
+    sym (out-of-range (n (found tested)) (m (found tested)) (key (found tested)) (value (found tested)) (figure (found tested) .0) (other tested) (range tested ∙ not-true _ (c .if2 .taken)))
 
 place-of-requires : tie.Need-place-of-requires
 place-of-requires c κs =
-    let g = f (c .before) in
-    place-asked (n g) (m g) (key g) (start g .pre .few) (figure g .0) (figure g .1)
+    let at = found (c .before) in
+    place-asked (n at) (m at) (key at) (start at .pre .few) (figure at .0) (figure at .1)
 
 returns-4 : tie.Need-returns-4
 unfolding entryOf
 returns-4 c =
-    let t = c .before .before in
-    let g = f t in
-    let kind = sym (figure g .1) in
-    let place = c .place-of .ensures ∙ (λ j. placeOf (kind j) (rowOf (key g)) (columnOf (key g))) in
-    (λ j. gives (record { kind = kind j; place = place j; value = value-kept g j }))
-    ∙ sym (in-range (n g) (m g) (key g) (value g) (figure g .0) (other t) (range t ∙ not-false _ (c .before .if2 .left)))
+    let tested = c .before .before in
+    let at = found tested in
+    let kind = sym (figure at .1) in
+    let place = c .place-of .ensures ∙ (λ j. placeOf (kind j) (rowOf (key at)) (columnOf (key at))) in
+    (λ j. gives (record { kind = kind j; place = place j; value = value-kept at j }))
+    ∙ sym (in-range (n at) (m at) (key at) (value at) (figure at .0) (other tested) (range tested ∙ not-false _ (c .before .if2 .left)))
 
 pub read-entry-spec : {M : Type 1} → statement M
 read-entry-spec =

@@ -47,60 +47,60 @@ module _ (c : tie.After-store-entries) where
 returns : tie.Need-returns
 unfolding refusalOf figuresRefusal
 returns c =
-    let a = c .before .before .before in
+    let stored = c .before .before .before in
     let told = ap refusalOf (c .before .enum-told2 .given .1) in
-    turned-back (S a) (a .store-entries .result) (c .without-figures .ensures) told (given _ (sym (a .store-entries .ensures .0) ∙ told))
+    turned-back (S stored) (stored .store-entries .result) (c .without-figures .ensures) told (given _ (sym (stored .store-entries .ensures .0) ∙ told))
 
 -- the values are good: the arrays hold all entries
 module _ (c : tie.After-enum-told) where
-  abbrev a : tie.After-store-entries
-  a = c .before .before
+  abbrev stored : tie.After-store-entries
+  stored = c .before .before
 
-  values : valueRefusal (S a) ≡ none
+  values : valueRefusal (S stored) ≡ none
   unfolding refusalOf
-  values = sym (a .store-entries .ensures .0) ∙ ap refusalOf (c .enum-told .given .1)
+  values = sym (stored .store-entries .ensures .0) ∙ ap refusalOf (c .enum-told .given .1)
 
-  all : storedBy (a .store-entries .result) (start a .args .sizes .entries) ≡ S a .entries
+  all : storedBy (stored .store-entries .result) (start stored .args .sizes .entries) ≡ S stored .entries
   unfolding storedBy
-  all = ap (λ (v : Verdict). storedBy v (start a .args .sizes .entries)) (c .enum-told .given .1) ∙ entries-is (start a .pre .headed)
+  all = ap (λ (v : Verdict). storedBy v (start stored .args .sizes .entries)) (c .enum-told .given .1) ∙ entries-is (start stored .pre .headed)
 
   -- the array of each kind is that of the figures
-  filled : (kind : Kind) {array : List ℤ} → array ≡ arrayAfter (S a) kind (storedBy (a .store-entries .result) (start a .args .sizes .entries))
-      → array ≡ arrayIn (figuresOf (problem (S a)) (S a .steps)) kind
-  filled kind e = e ∙ ap (arrayAfter (S a) kind) all ∙ all-stored (S a) kind
+  filled : (kind : Kind) {array : List ℤ} → array ≡ arrayAfter (S stored) kind (storedBy (stored .store-entries .result) (start stored .args .sizes .entries))
+      → array ≡ arrayIn (figuresOf (problem (S stored)) (S stored .steps)) kind
+  filled kind e = e ∙ ap (arrayAfter (S stored) kind) all ∙ all-stored (S stored) kind
 
 check-bounds-requires : tie.Need-check-bounds-requires
-check-bounds-requires c κs = let d = in-range (start (a (c .before .before)) .pre .headed) in omega arith
+check-bounds-requires c κs = let d = in-range (start (stored (c .before .before)) .pre .headed) in omega arith
 
 -- refusals 6 and 7, in the definition's terms
 module _ (c : tie.After-check-bounds) where
-  abbrev b : tie.After-enum-told
-  b = c .before .before .before
+  abbrev good : tie.After-enum-told
+  good = c .before .before .before
 
-  bounds : refusalOf (c .check-bounds .result) ≡ figuresRefusal (S (a b))
+  bounds : refusalOf (c .check-bounds .result) ≡ figuresRefusal (S (stored good))
   unfolding figuresRefusal figuresOf problem
   bounds =
-      let h = start (a b) .pre .headed in
-      let stored = a b .store-entries .ensures .1 in
+      let h = start (stored good) .pre .headed in
+      let arrays = stored good .store-entries .ensures .1 in
       c .check-bounds .ensures
-      ∙ (λ j. crossedRefusal (materials-is h j) (filled b Least (stored .leasts) j) (filled b Most (stored .mosts) j))
-      ∙ crossed-is (S (a b)) (narrow h)
-      ∙ sym (handed-on (boundRefusal (S (a b))) (values b))
+      ∙ (λ j. crossedRefusal (materials-is h j) (filled good Least (arrays .leasts) j) (filled good Most (arrays .mosts) j))
+      ∙ crossed-is (S (stored good)) (narrow h)
+      ∙ sym (handed-on (boundRefusal (S (stored good))) (values good))
 
 returns-2 : tie.Need-returns-2
 unfolding refusalOf
 returns-2 c =
-    let k = c .before .before .before in
+    let checked = c .before .before .before in
     let told = ap refusalOf (c .before .enum-told4 .given .1) in
-    turned-back (S (a (b k))) (k .check-bounds .result) (c .without-figures2 .ensures) told (sym (bounds k) ∙ told)
+    turned-back (S (stored (good checked))) (checked .check-bounds .result) (c .without-figures2 .ensures) told (sym (bounds checked) ∙ told)
 
 returns-3 : tie.Need-returns-3
 unfolding refusalOf figuresOf problem
 returns-3 c =
-    let k = c .before .before in
-    let h = start (a (b k)) .pre .headed in
-    let stored = a (b k) .store-entries .ensures .1 in
-    read-whole (S (a (b k))) refl (sym (bounds k) ∙ ap refusalOf (c .enum-told3 .given .1))
+    let checked = c .before .before in
+    let h = start (stored (good checked)) .pre .headed in
+    let arrays = stored (good checked) .store-entries .ensures .1 in
+    read-whole (S (stored (good checked))) refl (sym (bounds checked) ∙ ap refusalOf (c .enum-told3 .given .1))
     (λ j.
     record {
       materials = materials-is h j;
@@ -108,11 +108,11 @@ returns-3 c =
       numerator = numerator-is h j;
       scale = scale-is h j;
       steps = steps-is h j;
-      cost = filled (b k) Cost (stored .costs) j;
-      least = filled (b k) Least (stored .leasts) j;
-      most = filled (b k) Most (stored .mosts) j;
-      coefficient = filled (b k) Coefficient (stored .coefficients) j;
-      bound = filled (b k) Bound (stored .bounds) j;
+      cost = filled (good checked) Cost (arrays .costs) j;
+      least = filled (good checked) Least (arrays .leasts) j;
+      most = filled (good checked) Most (arrays .mosts) j;
+      coefficient = filled (good checked) Coefficient (arrays .coefficients) j;
+      bound = filled (good checked) Bound (arrays .bounds) j;
     })
 
 pub read-figures-spec : {M : Type 1} → statement M

@@ -38,27 +38,27 @@ module _ (c : tie.After-check-header) where
 returns-2 : tie.Need-returns-2
 unfolding refusalOf
 returns-2 c =
-    let a = c .before .before .before in
+    let checked = c .before .before .before in
     let told = ap refusalOf (c .before .enum-told2 .given .1) in
-    reads (s a)
-    (turned-back (sheetOf (s a)) (a .check-header .result) (c .without-figures2 .ensures) told
-    (after-short (s a) (long a) ∙ given _ (sym (header a) ∙ told)))
+    reads (s checked)
+    (turned-back (sheetOf (s checked)) (checked .check-header .result) (c .without-figures2 .ensures) told
+    (after-short (s checked) (long checked) ∙ given _ (sym (header checked) ∙ told)))
 
 -- the header is passed
 module _ (c : tie.After-enum-told) where
-  abbrev a : tie.After-check-header
-  a = c .before .before
+  abbrev header-of : tie.After-check-header
+  header-of = c .before .before
 
-  no-header : headerRefusal (length (s a)) (sizesOf (s a)) ≡ none
+  no-header : headerRefusal (length (s header-of)) (sizesOf (s header-of)) ≡ none
   unfolding refusalOf
-  no-header = sym (header a) ∙ ap refusalOf (c .enum-told .given .1)
+  no-header = sym (header header-of) ∙ ap refusalOf (c .enum-told .given .1)
 
-  headed : Headed (s a) (a .before .sizes-of .result)
+  headed : Headed (s header-of) (header-of .before .sizes-of .result)
   unfolding refusalOf
   headed =
-      let z = a .before .sizes-of .result in
-      let (dimensions, long) = header-says (length (s a)) z (sym (a .check-header .ensures) ∙ ap refusalOf (c .enum-told .given .1)) in
-      record { sizes = a .before .sizes-of .ensures; dimensions = dimensions; long = long }
+      let z = header-of .before .sizes-of .result in
+      let (dimensions, long) = header-says (length (s header-of)) z (sym (header-of .check-header .ensures) ∙ ap refusalOf (c .enum-told .given .1)) in
+      record { sizes = header-of .before .sizes-of .ensures; dimensions = dimensions; long = long }
 
 check-keys-requires : tie.Need-check-keys-requires
 check-keys-requires c κs = headed c
@@ -66,30 +66,35 @@ check-keys-requires c κs = headed c
 returns-3 : tie.Need-returns-3
 unfolding refusalOf
 returns-3 c =
-    let k = c .before .before .before in
-    let h = k .before in
+    let keys = c .before .before .before in
+    let passed = keys .before in
+    let t = s (header-of passed) in
     let told = ap refusalOf (c .before .enum-told4 .given .1) in
-    reads (s (a h))
-    (turned-back (sheetOf (s (a h))) (k .check-keys .result) (c .without-figures3 .ensures) told
-    (after-header (s (a h)) (long (a h)) (no-header h) ∙ given _ (sym (k .check-keys .ensures) ∙ told)))
+    reads t
+    (turned-back (sheetOf t) (keys .check-keys .result) (c .without-figures3 .ensures) told
+    (after-header t (long (header-of passed)) (no-header passed) ∙ given _ (sym (keys .check-keys .ensures) ∙ told)))
 
 -- the keys are passed
 module _ (c : tie.After-enum-told3) where
-  abbrev h : tie.After-enum-told
-  h = c .before .before .before
+  abbrev passed-of : tie.After-enum-told
+  passed-of = c .before .before .before
 
-  no-keys : keyRefusal (sheetOf (s (a h))) ≡ none
+  abbrev bytes : List ℕ
+  bytes = s (header-of passed-of)
+
+  no-keys : keyRefusal (sheetOf bytes) ≡ none
   unfolding refusalOf
   no-keys = sym (c .before .before .check-keys .ensures) ∙ ap refusalOf (c .enum-told3 .given .1)
 
 read-figures-requires : tie.Need-read-figures-requires
-read-figures-requires c κs = record { headed = headed (h c); keys = no-keys c }
+read-figures-requires c κs = record { headed = headed (passed-of c); keys = no-keys c }
 
 returns-4 : tie.Need-returns-4
 returns-4 c =
     let k = c .before in
-    let t = s (a (h k)) in
-    reads t (told-as (sheetOf t) (sym (after-keys t (long (a (h k))) (no-header (h k)) (no-keys k))) (c .read-figures .ensures))
+    let passed = passed-of k in
+    let chain = after-keys (bytes k) (long (header-of passed)) (no-header passed) (no-keys k) in
+    reads (bytes k) (told-as (sheetOf (bytes k)) (sym chain) (c .read-figures .ensures))
 
 pub read-sheet-spec : {M : Type 1} → statement M
 read-sheet-spec =

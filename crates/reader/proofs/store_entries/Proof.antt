@@ -81,54 +81,54 @@ module _ (c : tie.After-read-entry Inv-loop μ-loop) where
 returns : tie.Need-returns Inv-loop μ-loop
 unfolding refusalOf numbered numberOf valueRefusal storedBy entryOf entryRead
 returns c =
-    let a = c .before .before .before in
-    let bad = sym (value-test (S a) (i a) (there a)) ∙ refused-says 6 6 _ _ (sym (read-is a) ∙ ap entryOf (c .before .enum-told .given .1)) in (
-      ap refusalOf (c .refused .ensures) ∙ sym (scan-found 6 (badValue (S a)) (S a .entries) (inside a) (turn a .loop .inv .values) bad),
-      counted (sym (ap (λ (v : Verdict). storedBy v (start a .args .sizes .entries)) (c .refused .ensures))) (turn a .loop .inv .arrays),
+    let entry = c .before .before .before in
+    let bad = sym (value-test (S entry) (i entry) (there entry)) ∙ refused-says 6 6 _ _ (sym (read-is entry) ∙ ap entryOf (c .before .enum-told .given .1)) in (
+      ap refusalOf (c .refused .ensures) ∙ sym (scan-found 6 (badValue (S entry)) (S entry .entries) (inside entry) (turn entry .loop .inv .values) bad),
+      counted (sym (ap (λ (v : Verdict). storedBy v (start entry .args .sizes .entries)) (c .refused .ensures))) (turn entry .loop .inv .arrays),
     )
 
 -- the entry is good, and goes to its place
 module _ (c : tie.After-known-told Inv-loop μ-loop) where
-  abbrev a : tie.After-read-entry Inv-loop μ-loop
-  a = c .before .before .before
+  abbrev entry : tie.After-read-entry Inv-loop μ-loop
+  entry = c .before .before .before
 
   abbrev placed : Placed
   placed = record { kind = c .before .entry .given .0 .0; place = c .before .entry .given .0 .1 .0; value = c .before .entry .given .0 .1 .1 .0 }
 
-  read : entryRead (S a .materials) (S a .limits) (S a .key (i a)) (S a .value (i a)) ≡ gives placed
+  read : entryRead (S entry .materials) (S entry .limits) (S entry .key (i entry)) (S entry .value (i entry)) ≡ gives placed
   unfolding entryOf
-  read = sym (read-is a) ∙ ap entryOf (c .before .entry .given .1)
+  read = sym (read-is entry) ∙ ap entryOf (c .before .entry .given .1)
 
   value-kept : toZ w32 (ofZ w32 (placed .value)) ≡ placed .value
   value-kept = let fits : SFits w32 (placed .value) = search needs in toZ-ofZ fits
 
   fits : Storable (placed .kind) (placed .place) (placed .value)
-  fits = let h = start a .pre .keyed .headed in entry-fits (S a) (i a) (narrow h) (few h) (there a) read
+  fits = let h = start entry .pre .keyed .headed in entry-fits (S entry) (i entry) (narrow h) (few h) (there entry) read
 
-  after : (mine : Kind) {array : List ℤ} → array ≡ arrayAfter (S a) mine (i a)
-      → storeIf mine (placed .kind) (placed .place) (toZ w32 (ofZ w32 (placed .value))) array ≡ arrayAfter (S a) mine (i a + 1)
+  after : (mine : Kind) {array : List ℤ} → array ≡ arrayAfter (S entry) mine (i entry)
+      → storeIf mine (placed .kind) (placed .place) (toZ w32 (ofZ w32 (placed .value))) array ≡ arrayAfter (S entry) mine (i entry + 1)
   after mine {array} e =
-      let h = start a .pre .keyed .headed in
-      (λ j. storeIf mine (placed .kind) (placed .place) (value-kept j) array) ∙ entry-stored (S a) (i a) (narrow h) (few h) (there a) read mine e
+      let h = start entry .pre .keyed .headed in
+      (λ j. storeIf mine (placed .kind) (placed .place) (value-kept j) array) ∙ entry-stored (S entry) (i entry) (narrow h) (few h) (there entry) read mine e
 
 store-requires : tie.Need-store-requires Inv-loop μ-loop
-store-requires c κs = let k = c .before .before .before .before .before in rw (value-kept k) (fits k)
+store-requires c κs = let told = c .before .before .before .before .before in rw (value-kept told) (fits told)
 
 loop-again : tie.Need-loop-again Inv-loop μ-loop
 loop-again c =
-    let k = c .before .before .before .before .before .before in
-    let h = start (a k) .pre .keyed .headed in
-    let t = turn (a k) .loop .inv in
+    let told = c .before .before .before .before .before .before in
+    let h = start (entry told) .pre .keyed .headed in
+    let t = turn (entry told) .loop .inv in
     let (cost, (least, (most, (coefficient, bound)))) = c .store .ensures in
     record {
       within = omega arith;
-      values = scan-more 6 (badValue (S (a k))) (t .values) (entry-good (S (a k)) (i (a k)) (narrow h) (few h) (there (a k)) (read k));
+      values = scan-more 6 (badValue (S (entry told))) (t .values) (entry-good (S (entry told)) (i (entry told)) (narrow h) (few h) (there (entry told)) (read told));
       arrays = record {
-        costs = cost ∙ after k Cost (t .arrays .costs);
-        leasts = least ∙ after k Least (t .arrays .leasts);
-        mosts = most ∙ after k Most (t .arrays .mosts);
-        coefficients = coefficient ∙ after k Coefficient (t .arrays .coefficients);
-        bounds = bound ∙ after k Bound (t .arrays .bounds);
+        costs = cost ∙ after told Cost (t .arrays .costs);
+        leasts = least ∙ after told Least (t .arrays .leasts);
+        mosts = most ∙ after told Most (t .arrays .mosts);
+        coefficients = coefficient ∙ after told Coefficient (t .arrays .coefficients);
+        bounds = bound ∙ after told Bound (t .arrays .bounds);
       };
     }
 
