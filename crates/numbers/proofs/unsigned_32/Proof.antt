@@ -1,3 +1,4 @@
+-- Four bytes are two numbers of two bytes.
 use Prim.Native.Nat.{ℕ, _+_, _*_}
 use mathlib.Core.Path.{_≡_}
 use mathlib.Core.List.{List}
