@@ -1,5 +1,5 @@
 -- The chain of refusals 1 to 7, as the passes hand it on.
-use mathlib.Core.Path.{_≡_, _∙_}
+use mathlib.Core.Path.{_≡_, refl, _∙_}
 use mathlib.Core.Bool.{true}
 use mathlib.Core.List.{List}
 use mathlib.Core.Option.{none, some}
@@ -39,7 +39,7 @@ module _ (s : List ℕ) where
   module _ (l : 12 ≤ length s) where
     pub after-short : layoutRefusal s ≡ headerRefusal (length s) (sizesOf s) otherwise keyRefusal S otherwise figuresRefusal S
     unfolding layoutRefusal headerRefusal sizesOf keyRefusal figuresRefusal valueRefusal boundRefusal
-    after-short = handed-on _ (refuse-no 1 0 (le-ltb (length s) 12 l)) ∙ simp regrouped
+    after-short = handed-on _ (refuse-no 1 0 (le-ltb (length s) 12 l)) ∙ simp regrouped refl
 
     pub after-header : headerRefusal (length s) (sizesOf s) ≡ none → layoutRefusal s ≡ keyRefusal S otherwise figuresRefusal S
     after-header h = after-short ∙ handed-on _ h
