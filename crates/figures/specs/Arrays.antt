@@ -1,5 +1,5 @@
 -- Arrays with more places than figures: the places without a figure hold 0.
-use mathlib.Core.Path.{_≡_, refl, sym, _∙_}
+use mathlib.Core.Path.{_≡_, refl, sym, ap₂, _∙_}
 use mathlib.Core.Bool.{Bool, true, false, cond, _&&_, and-false}
 use mathlib.Core.List.{List}
 use Prim.Native.Nat.{ℕ, _+_, _*_, _/_, _%_, _≤_, _<_}
@@ -66,8 +66,8 @@ pub record RowsHold (m n : ℕ) (f : ℕ → ℕ → ℤ) (array : List ℤ) : T
 pub row-holds : (room n : ℕ) (f : ℕ → ℤ) → n ≤ room → RowHolds n f (row room n f)
 unfolding row
 row-holds room n f l = record {
-  here = λ j h. at-figure room (inRow n) f j (lt-of-lt-of-le h l) (lt-ltb j n h);
   past = λ j h. at-empty room (inRow n) f j (le-ltb j n h);
+  here = λ j h. at-figure room (inRow n) f j (lt-of-lt-of-le h l) (lt-ltb j n h);
 }
 
 -- place 32·i + j is place j of row i
@@ -79,7 +79,8 @@ module _ (room m n : ℕ) (f : ℕ → ℕ → ℤ) (few : m ≤ room) (narrow :
   unfolding rows
   rows-here i j p q =
       let (r, c) = row-parts i j (lt-of-lt-of-le q narrow) in
-      at-figure (32 * room) (inRows m n) (byRows f) (32 * i + j) (omega arith) (rw (r, c, lt-ltb i m p, lt-ltb j n q)) ∙ rw (r, c) refl
+      let figure = ap₂ _&&_ (lt-ltb ((32 * i + j) / 32) m (omega arith)) (lt-ltb ((32 * i + j) % 32) n (omega arith)) in
+      at-figure (32 * room) (inRows m n) (byRows f) (32 * i + j) (omega arith) figure ∙ rw (r, c) refl
 
   pub rows-hold : RowsHold m n f (rows room m n f)
   unfolding rows
