@@ -1,7 +1,9 @@
 -- The arrays of a problem with k steps, and what stands at each place.
-use Prim.Native.Nat.{ℕ, _≤_}
-use lib.IntN.{pos}
+use mathlib.Core.List.{List}
+use Prim.Native.Nat.{ℕ, _+_, _*_, _≤_}
+use lib.IntN.{ℤ, pos}
 use lib.ListN.{replicate}
+use Rattle.integer.specs.Vector.{at}
 use Rattle.rules.specs.Problem.{Problem}
 use Rattle.figures.specs.declared.Figures.{Figures}
 use Rattle.figures.specs.Arrays.{RowHolds, RowsHold, row, rows, row-holds, rows-hold}
@@ -20,6 +22,25 @@ figuresOf P k = record {
   coefficient = rows 16 (P .limits) (P .materials) (P .coefficient);
   bound = row 16 (P .limits) (P .bound);
 }
+
+-- the problem whose figures stand in arrays
+abbrev pub problemIn : (n m p D : ℕ) → (c l u a b : List ℤ) → Problem
+problemIn n m p D c l u a b = record {
+  materials = n;
+  limits = m;
+  numerator = p;
+  scale = D;
+  cost = at c;
+  least = at l;
+  most = at u;
+  coefficient = λ i j. at a (32 * i + j);
+  bound = at b;
+}
+
+-- the problem whose figures these are
+abbrev pub problemOf : Figures → Problem
+problemOf F =
+    problemIn (F .materials) (F .limits) (F .numerator) (F .scale) (F .cost) (F .least) (F .most) (F .coefficient) (F .bound)
 
 -- no figures: every size and every place is 0
 unfoldable pub noFigures : Figures

@@ -3,12 +3,13 @@
 use mathlib.Core.Path.{_≡_, refl}
 use Prim.Native.Nat.{ℕ, zero, suc, _+_, _*_, _^_, _<_, _≤_}
 use native.Mathlib.Omega.{arith}
-use native.Mathlib.Nat.{le-refl, le-trans, lt-of-le-of-lt, mul-le-mul}
+use native.Mathlib.Nat.{le-refl, le-trans, lt-of-le-of-lt, lt-of-lt-of-le, mul-le-mul}
 use lib.Dec.{T, ltb, leb, ltb→lt, leb→le}
 use lib.IntN.{ℤ, pos, negsuc, negℤ, natAbs, _+ℤ_, _-ℤ_, _*ℤ_}
 use lib.Signed.{_≤ℤ_, mag, leZ, natAbs-le}
 use mir.Syntax.{Width}
-use mir.Val.{SFits, hbits}
+use mir.Val.{SFits, hbits, toZ}
+use mir.Facts.{toZ-pos}
 use Rattle.integer.specs.Parts.{up, dn, neg-up, neg-dn, add-parts, le→parts, parts→le}
 
 -- ---- the absolute value: by the parts, of a sum, a negation and a product
@@ -79,6 +80,18 @@ bnd-sfits {w} {z} {a} t h = record { sfits = lt-of-le-of-lt (le-trans (mag-abs z
     mag-abs : (z : ℤ) → mag z ≤ natAbs z
     mag-abs (pos n) = omega arith
     mag-abs (negsuc n) = omega arith
+
+-- what fits a width fits a wider one; at two widths the test computes, `wider tt h`
+pub wider : {v w : Width} {z : ℤ} → T (leb (2 ^ hbits v) (2 ^ hbits w)) → SFits v z → SFits w z
+wider {v} {w} t h = record { sfits = lt-of-lt-of-le (h .sfits) (leb→le (2 ^ hbits v) (2 ^ hbits w) t) }
+
+-- a small number fits; `N` is a numeral, as in `small-fits {N = 1024} tt h`
+pub small-fits : {w : Width} {n N : ℕ} → T (ltb N (2 ^ hbits w)) → n ≤ N → SFits w (pos n)
+small-fits {w} {n} t h = bnd-sfits t (bnd-of (pos n) h)
+
+-- and its bits stand for itself
+pub small-is : (w : Width) {n N : ℕ} → T (ltb N (2 ^ hbits w)) → n ≤ N → toZ w n ≡ pos n
+small-is w t h = toZ-pos w (small-fits {w = w} t h .sfits)
 
 -- any two ends that fit: what lies between them fits
 pub sfits-between : {w : Width} {lo hi z : ℤ} → SFits w lo → SFits w hi → lo ≤ℤ z → z ≤ℤ hi → SFits w z

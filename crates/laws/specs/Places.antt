@@ -1,8 +1,10 @@
 -- What holds at every place below n.
-use mathlib.Core.Bool.{Bool, not}
+use mathlib.Core.Path.{_≡_, refl}
+use mathlib.Core.Bool.{Bool, true, false, not, or-true}
 use mathlib.Core.Logic.{inl, inr}
-use Prim.Native.Nat.{ℕ, zero, suc, _<_}
+use Prim.Native.Nat.{ℕ, zero, suc, _+_, _<_}
 use native.Mathlib.Nat.{eq-or-lt-of-le, le-of-suc-le-suc, not-suc-le-zero}
+use native.Mathlib.Numerals.{add-one}
 use lib.Dec.{T}
 use mir.Facts.{or-no}
 use Rattle.rules.specs.Step.{anyBelow}
@@ -22,3 +24,21 @@ any-none zero test h = below-zero (λ i. T (not (test i)))
 any-none (suc n) test h =
     let (before, here) = or-no (anyBelow n test) (test n) h in
     below-suc n (λ i. T (not (test i))) (any-none n test before) here
+
+-- ---- a loop that looks for a place that meets a test
+module _ (test : ℕ → Bool) where
+  pub any-start : anyBelow 0 test ≡ false
+  unfolding anyBelow
+  any-start = refl
+
+  pub any-more : {i : ℕ} → anyBelow i test ≡ false → test i ≡ false → anyBelow (i + 1) test ≡ false
+  unfolding anyBelow
+  any-more {i} before here = rw (add-one, before) here
+
+  pub any-found : {i : ℕ} (n : ℕ) → i < n → test i ≡ true → anyBelow n test ≡ true
+  unfolding anyBelow
+  any-found zero l here = absurd (not-suc-le-zero l)
+  any-found {i} (suc n) l here = elim (eq-or-lt-of-le (le-of-suc-le-suc l)) [
+    | inl e ↦ rw (← e, here) (or-true (anyBelow i test))
+    | inr k ↦ rw (any-found n k here) refl
+  ]

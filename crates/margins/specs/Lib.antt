@@ -15,9 +15,10 @@
 --   Infeasible       refusal 9 is given only where there is no feasible point
 --   Theorem          demand 3
 --   Sharp            the claims are not empty: marked sheets where they are equations, and near claims refuted
--- The magnitudes, which the code needs:
+-- What the code needs besides:
 --   Magnitudes       the figures of a step
 --   RunMagnitudes    the figures of a run: `magnitudes`, by a sheet's bytes, and `run-magnitudes`, by its figures
+--   Opening          low before any step
 -- Of a step, M are the multipliers that enter it (times D), M′ those that leave it, x its amounts, and V its dual value. A point y/d has the whole
 -- amounts y over the divisor d.
 pub mod Minimal
@@ -36,3 +37,4 @@ pub mod Theorem
 pub mod Sharp
 pub mod Magnitudes
 pub mod RunMagnitudes
+pub mod Opening

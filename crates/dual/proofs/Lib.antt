@@ -1,0 +1,3 @@
+-- What the proofs share.
+--   Sums   one turn of a loop that adds up terms
+pub mod Sums

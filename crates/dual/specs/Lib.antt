@@ -1,0 +1,2 @@
+-- What evaluating the dual function asks.
+pub mod Asked

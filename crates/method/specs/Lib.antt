@@ -1,0 +1,7 @@
+-- What the steps ask and hand back.
+--   Arrays   the state in arrays, and what the stop stands for
+--   Asked    what the functions ask
+--   Moves    the move of the multipliers
+pub mod Arrays
+pub mod Asked
+pub mod Moves

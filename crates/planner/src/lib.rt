@@ -1,0 +1,63 @@
+// Plans a sheet: its bytes and a lent buffer to the answer, with the record in the buffer.
+use figures::Figures;
+use method::State;
+use method::Stop;
+use method::gap;
+use method::run;
+use reader::Verdict;
+use reader::read_sheet;
+use record::Head;
+use record::write_record;
+use rules::Answer;
+use rules::Cause;
+use rules::Refusal;
+
+// The record and the answer of a run that came to its end.
+fn write_plan(f: Figures, state: State, record: &mut [u8]) -> Answer {
+    let low = state.low;
+    let gap = gap(f, state);
+    let head = Head {
+        materials: f.materials,
+        limits: f.limits,
+        steps: f.steps,
+        low: low,
+        gap: gap,
+    };
+    let sums = state.sums;
+    let multipliers = state.multipliers;
+    let totals = state.totals;
+    write_record(record, head, &sums, &multipliers, &totals);
+    Answer::Plan { low: low, gap: gap }
+}
+
+// The run of a sheet's figures, in a buffer that can take the record.
+fn plan_run(f: Figures, record: &mut [u8]) -> Answer {
+    let ran = run(f);
+    let stop = ran.stop;
+    match stop {
+        Stop::Stopped(refusal) => Answer::Refused(refusal),
+        Stop::Going => write_plan(f, ran.state, record),
+    }
+}
+
+// The plan of a sheet's figures, or refusals 8 to 10.
+fn plan_figures(f: Figures, record: &mut [u8]) -> Answer {
+    let wanted = 22 + 4 * f.materials + 12 * f.limits;
+    if record.len() < wanted {
+        return Answer::Refused(Refusal {
+            place: wanted,
+            cause: Cause::Buffer,
+        });
+    }
+    plan_run(f, record)
+}
+
+// Plans a sheet.
+pub fn plan(sheet: &[u8], record: &mut [u8]) -> Answer {
+    let reading = read_sheet(sheet);
+    let verdict = reading.verdict;
+    match verdict {
+        Verdict::Refused(refusal) => Answer::Refused(refusal),
+        Verdict::Accepted => plan_figures(reading.figures, record),
+    }
+}
