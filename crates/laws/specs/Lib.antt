@@ -5,9 +5,11 @@
 --   Places       what holds at every place below n
 --   NotRefused   what follows where nothing is refused
 --   FirstPlace   the chain of refusals and the first place, as code meets them
+--   Agreeing     only the figures of the n materials and the m limits count
 pub mod Entries
 pub mod Sizes
 pub mod Lengths
 pub mod Places
 pub mod NotRefused
 pub mod FirstPlace
+pub mod Agreeing

@@ -1,36 +1,22 @@
 -- What the functions give from the state after t steps is what step t works out.
-use mathlib.Core.Path.{_≡_, ap, _∙_}
+use mathlib.Core.Path.{_≡_, ap}
 use mathlib.Core.List.{List}
-use Prim.Native.Nat.{ℕ, _≤_}
-use native.Mathlib.Nat.{le-of-eq, le-trans}
+use Prim.Native.Nat.{ℕ}
 use lib.IntN.{ℤ, pos, _+ℤ_, _*ℤ_}
-use lib.ListN.{length}
 use Rattle.integer.specs.Order.{maxℤ}
 use Rattle.integer.specs.Sum.{sumTo, sumTo-cong}
 use Rattle.integer.specs.Vector.{at, tabulate-cong}
 use Rattle.rules.specs.Problem.{Problem, costOf}
 use Rattle.rules.specs.Step.{dualValue, moved, stepFrom}
-use Rattle.rules.specs.Run.{stateAfter, stepAt}
-use Rattle.laws.specs.Lengths.{multipliers-length, sums-length, totals-length, amounts-length, residuals-length}
+use Rattle.rules.specs.Run.{stepAt}
+use Rattle.laws.specs.Lengths.{amounts-length, residuals-length}
 use Rattle.margins.specs.Accepted.{Accepted}
 use Rattle.margins.specs.RunSteps.{entering, amounts, residuals, residuals-are}
-use Rattle.figures.specs.Padded.{padded, at-padded}
+use Rattle.figures.specs.Padded.{padded}
+use Rattle.method.specs.Reads.{reads}
 use Rattle.method.specs.Moves.{movedBy}
 
--- an array that holds a list of n elements, of which there is room for all, reads as the list
-reads : (room : ℕ) (xs : List ℤ) {n : ℕ} {array : List ℤ} → array ≡ padded room xs → length xs ≡ n → n ≤ room → at array ≡ at xs
-reads room xs e l few = (λ k. at (e k)) ∙ at-padded room xs (le-trans (le-of-eq l) few)
-
 module _ {P : Problem} {k : ℕ} (accepted : Accepted P k) (t : ℕ) where
-  pub multipliers-read : {array : List ℤ} → array ≡ padded 16 (stateAfter P t .multipliers) → at array ≡ entering P t
-  multipliers-read e = reads 16 (stateAfter P t .multipliers) e (multipliers-length P t) (accepted .limits-few)
-
-  pub sums-read : {array : List ℤ} → array ≡ padded 32 (stateAfter P t .sums) → at array ≡ at (stateAfter P t .sums)
-  sums-read e = reads 32 (stateAfter P t .sums) e (sums-length P t) (accepted .materials-few)
-
-  pub totals-read : {array : List ℤ} → array ≡ padded 16 (stateAfter P t .residualTotals) → at array ≡ at (stateAfter P t .residualTotals)
-  totals-read e = reads 16 (stateAfter P t .residualTotals) e (totals-length P t) (accepted .limits-few)
-
   pub amounts-read : {array : List ℤ} → array ≡ padded 32 (stepAt P t .amounts) → at array ≡ amounts P t
   amounts-read e = reads 32 (stepAt P t .amounts) e (amounts-length P t) (accepted .materials-few)
 

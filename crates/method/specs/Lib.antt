@@ -1,7 +1,9 @@
 -- What the steps ask and hand back.
 --   Arrays   the state in arrays, and what the stop stands for
+--   Reads    the arrays of a state read as its lists
 --   Asked    what the functions ask
 --   Moves    the move of the multipliers
 pub mod Arrays
+pub mod Reads
 pub mod Asked
 pub mod Moves

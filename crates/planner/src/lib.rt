@@ -1,4 +1,15 @@
 // Plans a sheet: its bytes and a lent buffer to the answer, with the record in the buffer.
+ghost use mathlib.Core.Option.{none};
+ghost use lib.Dec.{ltb};
+ghost use lib.ListN.{length};
+ghost use Rattle.rules.specs.Run.{planAfter};
+ghost use Rattle.rules.specs.Record.{recordLength};
+ghost use Rattle.rules.specs.Refusals.{refuse, _otherwise_};
+ghost use Rattle.rules.specs.Answers.{stepRefusal};
+ghost use Rattle.rules.specs.Promise.{Promise};
+ghost use Rattle.margins.specs.Accepted.{Accepted};
+ghost use Rattle.figures.specs.Figures.{problemOf};
+ghost use Rattle.planner.specs.Finish.{Ends, RunAsked, WriteAsked};
 use figures::Figures;
 use method::State;
 use method::Stop;
@@ -13,7 +24,10 @@ use rules::Cause;
 use rules::Refusal;
 
 // The record and the answer of a run that came to its end.
-fn write_plan(f: Figures, state: State, record: &mut [u8]) -> Answer {
+fn write_plan(f: Figures, state: State, record: &mut [u8]) -> Answer
+    requires { ⌜ WriteAsked f state (now «record») ⌝ }
+    ensures { λ r. ⌜ Ends (planAfter (problemOf f) (f .steps)) none (now («record» .entry)) (now («record» .exit)) r ⌝ }
+{
     let low = state.low;
     let gap = gap(f, state);
     let head = Head {
@@ -31,7 +45,10 @@ fn write_plan(f: Figures, state: State, record: &mut [u8]) -> Answer {
 }
 
 // The run of a sheet's figures, in a buffer that can take the record.
-fn plan_run(f: Figures, record: &mut [u8]) -> Answer {
+fn plan_run(f: Figures, record: &mut [u8]) -> Answer
+    requires { ⌜ RunAsked f (now «record») ⌝ }
+    ensures { λ r. ⌜ Ends (planAfter (problemOf f) (f .steps)) (stepRefusal (problemOf f) (f .steps)) (now («record» .entry)) (now («record» .exit)) r ⌝ }
+{
     let ran = run(f);
     let stop = ran.stop;
     match stop {
@@ -41,7 +58,13 @@ fn plan_run(f: Figures, record: &mut [u8]) -> Answer {
 }
 
 // The plan of a sheet's figures, or refusals 8 to 10.
-fn plan_figures(f: Figures, record: &mut [u8]) -> Answer {
+fn plan_figures(f: Figures, record: &mut [u8]) -> Answer
+    requires { ⌜ Accepted (problemOf f) (f .steps) ⌝ }
+    ensures { λ r. ⌜ Ends (planAfter (problemOf f) (f .steps))
+        (refuse 8 (recordLength (f .materials) (f .limits)) (ltb (length (now («record» .entry))) (recordLength (f .materials) (f .limits)))
+        otherwise stepRefusal (problemOf f) (f .steps))
+        (now («record» .entry)) (now («record» .exit)) r ⌝ }
+{
     let wanted = 22 + 4 * f.materials + 12 * f.limits;
     if record.len() < wanted {
         return Answer::Refused(Refusal {
@@ -53,7 +76,9 @@ fn plan_figures(f: Figures, record: &mut [u8]) -> Answer {
 }
 
 // Plans a sheet.
-pub fn plan(sheet: &[u8], record: &mut [u8]) -> Answer {
+pub fn plan(sheet: &[u8], record: &mut [u8]) -> Answer
+    ensures { λ r. ⌜ Promise (now (sheet .entry)) (now («record» .entry)) (now («record» .exit)) r ⌝ }
+{
     let reading = read_sheet(sheet);
     let verdict = reading.verdict;
     match verdict {

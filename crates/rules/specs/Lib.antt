@@ -10,6 +10,7 @@
 --   Answers    the answer to a sheet, and the lent buffer afterwards
 --   Listing    the text of an answer
 --   Margins    the statement of demand 3
+--   Promise    the three demands, as planning a sheet keeps them
 -- The rest holds these definitions against worked sheets:
 --   Rows       how a table of sheets is written
 --   Marked     C1 to C10
@@ -29,6 +30,7 @@ pub mod Refusals
 pub mod Answers
 pub mod Listing
 pub mod Margins
+pub mod Promise
 pub mod Rows
 pub mod Marked
 pub mod Examples

@@ -15,7 +15,7 @@ use Rattle.figures.specs.Figures.{problemOf}
 use Rattle.dual.specs.Asked.{SumsAsked}
 use Rattle.method.specs.Arrays.{arraysOf}
 use Rattle.method.proofs.Magnitudes.{sums-asked}
-use Rattle.method.proofs.Results.{sums-read}
+use Rattle.method.specs.Reads.{sums-read}
 use Rattle.method.proofs.gap.Statement.{statement}
 use Rattle.method.proofs.gap.Tie as tie
 

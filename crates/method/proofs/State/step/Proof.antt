@@ -24,10 +24,11 @@ use Rattle.figures.specs.Padded.{padded}
 use Rattle.figures.specs.Figures.{problemIn, problemOf}
 use Rattle.dual.specs.Asked.{AmountsAsked, ResidualsAsked, DualValueAsked}
 use Rattle.method.specs.Arrays.{arraysOf}
+use Rattle.method.specs.Reads.{multipliers-read, sums-read, totals-read}
 use Rattle.method.specs.Asked.{MoveAsked, TotalsFit}
 use Rattle.method.specs.Moves.{movedBy, tooLarge}
 use Rattle.method.proofs.Magnitudes.{amounts-asked, residuals-asked, dual-value-asked, move-asked, sums-fit, totals-fit}
-use Rattle.method.proofs.Results.{multipliers-read, sums-read, totals-read, amounts-read, residuals-read, dual-value-is, moves-are}
+use Rattle.method.proofs.Results.{amounts-read, residuals-read, dual-value-is, moves-are}
 use Rattle.method.proofs.Stops.{refused-9, refused-10, not-refused, hands-stop, hands-state}
 use Rattle.method.proofs.State.step.Statement.{statement}
 use Rattle.method.proofs.State.step.Tie as tie

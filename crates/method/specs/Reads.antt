@@ -1,0 +1,28 @@
+-- The arrays of a state read as its lists.
+use mathlib.Core.Path.{_≡_, _∙_}
+use mathlib.Core.List.{List}
+use Prim.Native.Nat.{ℕ, _≤_}
+use native.Mathlib.Nat.{le-of-eq, le-trans}
+use lib.IntN.{ℤ}
+use lib.ListN.{length}
+use Rattle.integer.specs.Vector.{at}
+use Rattle.rules.specs.Problem.{Problem}
+use Rattle.rules.specs.Run.{stateAfter}
+use Rattle.laws.specs.Lengths.{multipliers-length, sums-length, totals-length}
+use Rattle.margins.specs.Accepted.{Accepted}
+use Rattle.margins.specs.RunSteps.{entering}
+use Rattle.figures.specs.Padded.{padded, at-padded}
+
+-- an array that holds a list of n elements, of which there is room for all, reads as the list
+pub reads : (room : ℕ) (xs : List ℤ) {n : ℕ} {array : List ℤ} → array ≡ padded room xs → length xs ≡ n → n ≤ room → at array ≡ at xs
+reads room xs e l few = (λ k. at (e k)) ∙ at-padded room xs (le-trans (le-of-eq l) few)
+
+module _ {P : Problem} {k : ℕ} (accepted : Accepted P k) (t : ℕ) where
+  pub multipliers-read : {array : List ℤ} → array ≡ padded 16 (stateAfter P t .multipliers) → at array ≡ entering P t
+  multipliers-read e = reads 16 (stateAfter P t .multipliers) e (multipliers-length P t) (accepted .limits-few)
+
+  pub sums-read : {array : List ℤ} → array ≡ padded 32 (stateAfter P t .sums) → at array ≡ at (stateAfter P t .sums)
+  sums-read e = reads 32 (stateAfter P t .sums) e (sums-length P t) (accepted .materials-few)
+
+  pub totals-read : {array : List ℤ} → array ≡ padded 16 (stateAfter P t .residualTotals) → at array ≡ at (stateAfter P t .residualTotals)
+  totals-read e = reads 16 (stateAfter P t .residualTotals) e (totals-length P t) (accepted .limits-few)

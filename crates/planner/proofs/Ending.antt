@@ -1,0 +1,94 @@
+-- How planning ends: with a refusal and the buffer as lent, or with a plan and its record.
+use mathlib.Core.Path.{_≡_, sym, ap, subst, transport, _∙_}
+use mathlib.Core.List.{List, _++_}
+use mathlib.Core.Option.{Option, none, some}
+use Prim.Native.Nat.{ℕ}
+use lib.IntN.{ℤ}
+use lib.ListN.{length, drop}
+use Rattle.integer.specs.Vector.{at, tabulate}
+use Rattle.rules.specs.declared.Answer.{Answer}
+use Rattle.rules.specs.declared.Refusal.{Refusal}
+use Rattle.rules.specs.Problem.{Problem}
+use Rattle.rules.specs.Step as step
+use Rattle.rules.specs.Run.{Plan, stateAfter, gapAfter, planAfter}
+use Rattle.rules.specs.Record.{recordOf, recordLength}
+use Rattle.rules.specs.Refusals.{Numbered, numbered}
+use Rattle.rules.specs.Answers.{plan, refusal, planOf, outcome, outcomeOf, answer, bufferOf, bufferAfter}
+use Rattle.rules.specs.Margins.{Margins}
+use Rattle.rules.specs.Promise.{Promise}
+use Rattle.laws.specs.Lengths.{multipliers-length, sums-length, totals-length}
+use Rattle.margins.specs.Theorem.{margins}
+use Rattle.figures.specs.declared.Figures.{Figures}
+use Rattle.figures.specs.Padded.{tabulate-at}
+use Rattle.figures.specs.Figures.{problemOf}
+use Rattle.method.specs.declared.State.{State}
+use Rattle.method.specs.Arrays.{arraysOf}
+use Rattle.method.specs.Reads.{multipliers-read, sums-read, totals-read}
+use Rattle.method.specs.Asked.{Reached}
+use Rattle.record.specs.Held.{planIn}
+use Rattle.planner.specs.Finish.{Ends}
+
+-- a refusal leaves the buffer as lent
+pub ends-refused : {p : Plan} {met : Option Numbered} {lent : List ℕ} (r : Refusal) → met ≡ some (numbered r) → Ends p met lent lent (Answer.Refused r)
+unfolding outcome outcomeOf bufferOf
+ends-refused {p} {met} {lent} r m = record { answered = λ i. outcomeOf p (sym m i); buffer = λ i. bufferOf p lent (outcomeOf p (sym m i)) }
+
+-- a plan is followed in the buffer by the rest as lent
+pub ends-planned : {p : Plan} {lent left : List ℕ} {low gap : ℤ} → low ≡ p .low → gap ≡ p .gap
+    → left ≡ recordOf p ++ drop (recordLength (p .materials) (p .limits)) lent → Ends p none lent left (Answer.Plan low gap)
+unfolding outcome outcomeOf bufferOf
+ends-planned l g b = record { answered = λ i. plan (l i) (g i); buffer = b }
+
+-- the same end, by another plan and another refusal that are equal
+pub ends-same : {p q : Plan} {met first : Option Numbered} {lent left : List ℕ} {r : Answer} → p ≡ q → met ≡ first → Ends p met lent left r → Ends q first lent left r
+ends-same {lent = lent} {left = left} {r = r} e m h = transport (λ i. Ends (e i) (m i) lent left r) h
+
+-- ---- the plan that the arrays hold after the last step
+module _ (f : Figures) {w : State} (reached : Reached f (f .steps) w) where
+  abbrev P : Problem
+  P = problemOf f
+
+  abbrev last : step.State
+  last = stateAfter P (f .steps)
+
+  sums-held : tabulate (f .materials) (at (w .sums)) ≡ last .sums
+  unfolding arraysOf
+  sums-held =
+      (λ i. tabulate (f .materials) (sums-read (reached .accepted) (f .steps) (λ k. reached .state k .sums) i))
+      ∙ tabulate-at (f .materials) (last .sums) (sums-length P (f .steps))
+
+  multipliers-held : tabulate (f .limits) (at (w .multipliers)) ≡ last .multipliers
+  unfolding arraysOf
+  multipliers-held =
+      (λ i. tabulate (f .limits) (multipliers-read (reached .accepted) (f .steps) (λ k. reached .state k .multipliers) i))
+      ∙ tabulate-at (f .limits) (last .multipliers) (multipliers-length P (f .steps))
+
+  totals-held : tabulate (f .limits) (at (w .totals)) ≡ last .residualTotals
+  unfolding arraysOf
+  totals-held =
+      (λ i. tabulate (f .limits) (totals-read (reached .accepted) (f .steps) (λ k. reached .state k .totals) i))
+      ∙ tabulate-at (f .limits) (last .residualTotals) (totals-length P (f .steps))
+
+  pub plan-held : {low gap : ℤ} → low ≡ planAfter P (f .steps) .low → gap ≡ planAfter P (f .steps) .gap
+      → planIn (record { materials = f .materials; limits = f .limits; steps = f .steps; low = low; gap = gap }) (w .sums) (w .multipliers) (w .totals)
+      ≡ planAfter P (f .steps)
+  unfolding planIn planAfter
+  plan-held l g = λ i. record {
+    materials = f .materials;
+    limits = f .limits;
+    steps = f .steps;
+    low = l i;
+    gap = g i;
+    sums = sums-held i;
+    multipliers = multipliers-held i;
+    residualTotals = totals-held i;
+  }
+
+-- ---- the promise, from the end
+pub promised : {sheet lent left : List ℕ} {r : Answer} → Ends (planOf sheet) (refusal sheet (length lent)) lent left r → Promise sheet lent left r
+unfolding answer bufferAfter
+promised {sheet} {lent} e = record {
+  answered = e .answered;
+  buffer = e .buffer;
+  margins = subst (Margins sheet) (sym (e .answered)) (margins sheet (length lent));
+}

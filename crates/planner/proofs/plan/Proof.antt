@@ -1,0 +1,57 @@
+-- A sheet that is turned back is refused as the table says; the figures of any other give the sheet's own plan.
+use mathlib.Core.Path.{_≡_, sym, ap, _∙_}
+use mathlib.Core.List.{List}
+use mathlib.Core.Option.{none}
+use Prim.Native.Nat.{ℕ}
+use lib.ListN.{length}
+use borrow.Author.Needs.{needs}
+use Rattle.rules.specs.Sheet.{sheetOf, problem}
+use Rattle.rules.specs.Refusals.{layoutRefusal}
+use Rattle.figures.specs.Figures.{figuresOf}
+use Rattle.reader.specs.Reading.{refusalOf, figuresUnless}
+use Rattle.planner.proofs.Ending.{ends-refused, ends-same, promised}
+use Rattle.planner.proofs.Sheets.{figures-accepted, plan-is, refusal-is, turned-back}
+use Rattle.planner.proofs.plan.Statement.{statement}
+use Rattle.planner.proofs.plan.Tie as tie
+
+returns : tie.Need-returns
+unfolding refusalOf
+returns c =
+    let told = c .before in
+    let read = told .before .before in
+    let s = read .before .before .before in
+    promised
+    (ends-refused _
+    (turned-back (s .args .sheet .now) (length (s .args .«record» .now)) (sym (read .read-sheet .ensures .verdict) ∙ ap refusalOf (told .verdict .given .1))))
+
+-- the sheet is read
+module _ (c : tie.After-enum-told) where
+  abbrev read : tie.After-read-sheet
+  read = c .before .before
+
+  abbrev sheet : List ℕ
+  sheet = read .before .before .before .args .sheet .now
+
+  accepted : layoutRefusal sheet ≡ none
+  unfolding refusalOf
+  accepted = sym (read .read-sheet .ensures .verdict) ∙ ap refusalOf (c .enum-told .given .1)
+
+  figures-are : read .read-sheet .result .figures ≡ figuresOf (problem (sheetOf sheet)) (sheetOf sheet .steps)
+  unfolding figuresUnless
+  figures-are = read .read-sheet .ensures .figures ∙ (λ i. figuresUnless (accepted i) (sheetOf sheet))
+
+plan-figures-requires : tie.Need-plan-figures-requires
+plan-figures-requires c κs = figures-accepted (sheet (c .before)) (accepted (c .before)) (figures-are (c .before))
+
+returns-2 : tie.Need-returns-2
+returns-2 c =
+    let planned = c .before .before in
+    let told = planned .before .before in
+    let bytes = sheet told in
+    promised
+    (ends-same (plan-is bytes (accepted told) (figures-are told)) (refusal-is bytes (accepted told) (figures-are told) _) (planned .plan-figures .ensures))
+
+pub plan-spec : {M : Type 1} → statement M
+plan-spec =
+    tie.close
+    (tie.spec (λ c κs. search needs) (search needs) (search needs) plan-figures-requires returns (search needs) returns-2)

@@ -1,0 +1,56 @@
+-- A stop of the run is refused, and a run to its end is written.
+use mathlib.Core.Path.{_≡_, refl, sym, ap, _∙_}
+use mathlib.Core.Option.{none}
+use borrow.Author.Needs.{needs}
+use native.Mathlib.Nat.{le-refl}
+use Rattle.rules.specs.Answers.{stepRefusal}
+use Rattle.figures.specs.Figures.{problemOf}
+use Rattle.method.specs.Arrays.{refusalOf, stepsTaken, arraysOf}
+use Rattle.rules.specs.Run.{stateAfter}
+use Rattle.method.specs.Asked.{Reached}
+use Rattle.planner.proofs.Ending.{ends-refused, ends-same}
+use Rattle.planner.proofs.plan_run.Statement.{statement}
+use Rattle.planner.proofs.plan_run.Tie as tie
+
+returns : tie.Need-returns
+unfolding refusalOf
+returns c =
+    let stopped = c .before in
+    let ran = stopped .before .before in
+    ends-refused _ (sym (ran .run .ensures .stop) ∙ ap refusalOf (stopped .stop .given .1))
+
+-- no step was refused
+module _ (c : tie.After-enum-told) where
+  abbrev ran : tie.After-run
+  ran = c .before .before
+
+  abbrev s : tie.Start
+  s = ran .before .before
+
+  going : stepRefusal (problemOf (s .args .f)) (s .args .f .steps) ≡ none
+  unfolding refusalOf
+  going = sym (ran .run .ensures .stop) ∙ ap refusalOf (c .enum-told .given .1)
+
+  reached : Reached (s .args .f) (s .args .f .steps) (ran .run .result .state)
+  unfolding stepsTaken
+  reached =
+      let f = s .args .f in
+      record {
+        accepted = s .pre .accepted;
+        few = le-refl _;
+        going = going;
+        state = ran .run .ensures .state ∙ (λ i. arraysOf (stateAfter (problemOf f) (stepsTaken (f .steps) (going i))));
+      }
+
+write-plan-requires : tie.Need-write-plan-requires
+write-plan-requires c κs = record { reached = reached (c .before); room = s (c .before) .pre .room }
+
+returns-2 : tie.Need-returns-2
+returns-2 c =
+    let wrote = c .before .before in
+    ends-same refl (sym (going (wrote .before .before))) (wrote .write-plan .ensures)
+
+pub plan-run-spec : {M : Type 1} → statement M
+plan-run-spec =
+    tie.close
+    (tie.spec (λ c κs. search needs) (search needs) (search needs) write-plan-requires returns (search needs) returns-2)
