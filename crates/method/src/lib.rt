@@ -3,8 +3,9 @@ ghost use mathlib.Core.Bool.{cond};
 ghost use mathlib.Core.List.{List};
 ghost use mathlib.Core.Path.{_≡_};
 ghost use Prim.Native.Nat.{ℕ, suc, _≤_};
-ghost use lib.IntN.{ℤ, pos, _+ℤ_};
+ghost use lib.IntN.{ℤ, pos, _+ℤ_, _-ℤ_};
 ghost use mir.Syntax.{w32, w64};
+ghost use mir.Val.{SFits};
 ghost use Rattle.integer.specs.Order.{maxℤ};
 ghost use Rattle.integer.specs.Vector.{at, tabulate};
 ghost use Rattle.rules.specs.Run.{stateAfter, gapAfter};
@@ -76,7 +77,8 @@ fn moved<'a>(
     let mut next: [i32; 16] = [0; 16];
     let mut i: usize = 0;
     while i < m {
-        let moved = larger(0, (multipliers[i] as i64) + p * (residuals[i] as i64));
+        let old = multipliers[i] as i64;
+        let moved = larger(0, old + p * (residuals[i] as i64));
         if 1073741824 < moved {
             return Move {
                 diverged: true,
@@ -92,6 +94,14 @@ fn moved<'a>(
     }
 }
 
+// A sum with the amount of one step more.
+fn plus_32(sum: i32, amount: i32) -> i32
+    requires { ⌜ SFits w32 (sum +ℤ amount) ⌝ }
+    ensures { λ r. ⌜ r ≡ sum +ℤ amount ⌝ }
+{
+    sum + amount
+}
+
 // The sums with the amounts of one step more.
 fn with_amounts<'a>(n: usize, sums: &'a [i32; 32], amounts: &'a [i16; 32]) -> [i32; 32]
     requires { ⌜ TotalsFit w32 32 n (at (now sums)) (at (now amounts)) ⌝ }
@@ -100,10 +110,18 @@ fn with_amounts<'a>(n: usize, sums: &'a [i32; 32], amounts: &'a [i16; 32]) -> [i
     let mut after: [i32; 32] = [0; 32];
     let mut j: usize = 0;
     while j < n {
-        after[j] = sums[j] + (amounts[j] as i32);
+        after[j] = plus_32(sums[j], amounts[j] as i32);
         j += 1;
     }
     after
+}
+
+// A residual total with the residual of one step more.
+fn plus_64(total: i64, residual: i64) -> i64
+    requires { ⌜ SFits w64 (total +ℤ residual) ⌝ }
+    ensures { λ r. ⌜ r ≡ total +ℤ residual ⌝ }
+{
+    total + residual
 }
 
 // The residual totals with the residuals of one step more.
@@ -114,7 +132,7 @@ fn with_residuals<'a>(m: usize, totals: &'a [i64; 16], residuals: &'a [i32; 16])
     let mut after: [i64; 16] = [0; 16];
     let mut i: usize = 0;
     while i < m {
-        after[i] = totals[i] + (residuals[i] as i64);
+        after[i] = plus_64(totals[i], residuals[i] as i64);
         i += 1;
     }
     after
@@ -216,6 +234,14 @@ pub fn run(f: Figures) -> Stepped
     }
 }
 
+// D times the cost of the sums, less k times low. It may be negative.
+fn difference(cost: i64, low: i64) -> i64
+    requires { ⌜ SFits w64 (cost -ℤ low) ⌝ }
+    ensures { λ r. ⌜ r ≡ cost -ℤ low ⌝ }
+{
+    cost - low
+}
+
 // The gap of the state after the last step.
 pub fn gap(f: Figures, state: State) -> i64
     requires { ⌜ Reached f (f .steps) state ⌝ }
@@ -223,5 +249,5 @@ pub fn gap(f: Figures, state: State) -> i64
 {
     let sums = state.sums;
     let cost = cost_of_sums(f.materials, &f.cost, &sums);
-    (f.scale as i64) * cost - (f.steps as i64) * state.low
+    difference((f.scale as i64) * cost, (f.steps as i64) * state.low)
 }

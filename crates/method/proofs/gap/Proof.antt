@@ -68,29 +68,33 @@ module _ (c : tie.After-cost-of-sums) where
   gap-fits : SFits w64 (gapAfter (P s) (f s .steps))
   gap-fits = large s .state .gap .fits
 
-cast-result : tie.Need-cast-result
-cast-result c = small-fits {N = 1024} tt (s c .pre .accepted .scale-small)
+cast-difference : tie.Need-cast-difference
+cast-difference c = small-fits {N = 1024} tt (s c .pre .accepted .scale-small)
 
-mul-result : tie.Need-mul-result
-mul-result c = simp (scale-is (s c), cost-is c) (scaled-fits c)
+mul-difference : tie.Need-mul-difference
+mul-difference c = simp (scale-is (s c), cost-is c) (scaled-fits c)
 
-cast-result-2 : tie.Need-cast-result-2
-cast-result-2 c = small-fits {N = 4096} tt (s c .pre .accepted .steps-few)
+cast-difference-2 : tie.Need-cast-difference-2
+cast-difference-2 c = small-fits {N = 4096} tt (s c .pre .accepted .steps-few)
 
-mul-result-2 : tie.Need-mul-result-2
-mul-result-2 c = let a = c .before .before in simp (steps-is (s a), low-is (s a)) (counted-fits a)
+mul-difference-2 : tie.Need-mul-difference-2
+mul-difference-2 c = let a = c .before .before in simp (steps-is (s a), low-is (s a)) (counted-fits a)
 
-sub-result : tie.Need-sub-result
+difference-requires : tie.Need-difference-requires
 unfolding gapAfter
-sub-result c =
+difference-requires c κs =
     let a = c .before .before in
     simp (scale-is (s a), cost-is a, steps-is (s a), low-is (s a), toZ-ofZ (scaled-fits a), toZ-ofZ (counted-fits a)) (gap-fits a)
 
 returns : tie.Need-returns
 unfolding gapAfter
 returns c =
-    let a = c .before .before in
-    simp (scale-is (s a), cost-is a, steps-is (s a), low-is (s a), toZ-ofZ (scaled-fits a), toZ-ofZ (counted-fits a), toZ-ofZ (gap-fits a))
+    let a = c .before .before .before in
+    let fits : SFits w64 (c .difference .result) = search needs in
+    toZ-ofZ fits
+    ∙ (simp (scale-is (s a), cost-is a, steps-is (s a), low-is (s a), toZ-ofZ (scaled-fits a), toZ-ofZ (counted-fits a)) at (c .difference .ensures))
 
 pub gap-spec : {M : Type 1} → statement M
-gap-spec = tie.close (tie.spec cost-of-sums-requires cast-result mul-result cast-result-2 mul-result-2 sub-result returns)
+gap-spec =
+    tie.close
+    (tie.spec cost-of-sums-requires cast-difference mul-difference cast-difference-2 mul-difference-2 difference-requires returns)

@@ -61,13 +61,13 @@ cast-p c = small-fits {N = 1024} tt (c .pre .numerator)
 loop-holds : tie.Need-loop-holds Inv-loop μ-loop
 loop-holds c = record { within = omega arith; small = any-start _; done = sym (fill-start 16 _) }
 
-cast-larger : tie.Need-cast-larger Inv-loop μ-loop
-cast-larger c =
+cast-old : tie.Need-cast-old Inv-loop μ-loop
+cast-old c =
     let fits : SFits w32 (at (c .before .before .before .args .multipliers .now) (c .before .before .loop .i)) = search needs in
     simp (toZ-ofZ fits) (wider {v = w32} {w = w64} tt fits)
 
 -- in a turn, with both elements read
-module _ (c : tie.After-larger-arg2 Inv-loop μ-loop) where
+module _ (c : tie.After-larger-arg Inv-loop μ-loop) where
   abbrev s : tie.Start Inv-loop μ-loop
   s = c .before .before .before .before
 
@@ -104,11 +104,11 @@ module _ (c : tie.After-larger-arg2 Inv-loop μ-loop) where
   uncut-fits : SFits w64 (multiplier +ℤ pos (s .args .numerator) *ℤ residual)
   uncut-fits = s .pre .uncut i here
 
-cast-larger-2 : tie.Need-cast-larger-2 Inv-loop μ-loop
-cast-larger-2 c = simp (toZ-ofZ (residual-fits c)) (residual-wide c)
+cast-larger : tie.Need-cast-larger Inv-loop μ-loop
+cast-larger c = simp (toZ-ofZ (residual-fits c)) (residual-wide c)
 
-mul-larger-3 : tie.Need-mul-larger-3 Inv-loop μ-loop
-mul-larger-3 c = simp (toZ-ofZ (residual-fits c), toZ-ofZ (residual-wide c), numerator-is c) (scaled-fits c)
+mul-larger-2 : tie.Need-mul-larger-2 Inv-loop μ-loop
+mul-larger-2 c = simp (toZ-ofZ (residual-fits c), toZ-ofZ (residual-wide c), numerator-is c) (scaled-fits c)
 
 add-larger : tie.Need-add-larger Inv-loop μ-loop
 add-larger c =
@@ -118,7 +118,7 @@ add-larger c =
 
 -- with the moved multiplier
 module _ (c : tie.After-larger Inv-loop μ-loop) where
-  abbrev turn : tie.After-larger-arg2 Inv-loop μ-loop
+  abbrev turn : tie.After-larger-arg Inv-loop μ-loop
   turn = c .before
 
   abbrev afterwards : ℕ → ℤ
@@ -186,11 +186,11 @@ moved-spec =
     loop-holds
     (search needs)
     (search needs)
+    cast-old
+    (search needs)
+    (search needs)
     cast-larger
-    (search needs)
-    (search needs)
-    cast-larger-2
-    mul-larger-3
+    mul-larger-2
     add-larger
     (λ c κs. search needs)
     returns

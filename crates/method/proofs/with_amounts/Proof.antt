@@ -1,5 +1,5 @@
 -- After j turns the first j places hold their sums.
-use mathlib.Core.Path.{_≡_, sym}
+use mathlib.Core.Path.{_≡_, sym, _∙_}
 use mathlib.Core.List.{List}
 use Prim.Native.Nat.{ℕ, _-_, _≤_}
 use native.Mathlib.Omega.{arith}
@@ -27,7 +27,7 @@ loop-holds : tie.Need-loop-holds Inv-loop μ-loop
 loop-holds c = (omega arith, sym (fill-start 32 _))
 
 -- in a turn, with both elements read
-module _ (c : tie.After-after2 Inv-loop μ-loop) where
+module _ (c : tie.After-plus-32-arg2 Inv-loop μ-loop) where
   abbrev s : tie.Start Inv-loop μ-loop
   s = c .before .before .before .before
 
@@ -46,18 +46,18 @@ module _ (c : tie.After-after2 Inv-loop μ-loop) where
   sum-fits : SFits w32 (added (s .args .sums .now) (s .args .amounts .now) j)
   sum-fits = s .pre .one j (omega arith)
 
-cast-after : tie.Need-cast-after Inv-loop μ-loop
-cast-after c = simp (toZ-ofZ (more-fits c)) (more-wide c)
+cast-plus-32 : tie.Need-cast-plus-32 Inv-loop μ-loop
+cast-plus-32 c = simp (toZ-ofZ (more-fits c)) (more-wide c)
 
-add-after : tie.Need-add-after Inv-loop μ-loop
-add-after c = simp (toZ-ofZ (more-fits c), toZ-ofZ (more-wide c), toZ-ofZ (total-fits c)) (sum-fits c)
+plus-32-requires : tie.Need-plus-32-requires Inv-loop μ-loop
+plus-32-requires c κs = simp (toZ-ofZ (more-fits c), toZ-ofZ (more-wide c), toZ-ofZ (total-fits c)) (sum-fits c)
 
 loop-again : tie.Need-loop-again Inv-loop μ-loop
-loop-again c = (
-  omega arith,
-  fill-next 32 _ (omega (arith, s c .pre .few)) (c .before .before .before .loop .inv .1)
-      (simp (toZ-ofZ (more-fits c), toZ-ofZ (more-wide c), toZ-ofZ (total-fits c), toZ-ofZ (sum-fits c))),
-)
+loop-again c =
+    let a = c .before in
+    let fits : SFits w32 (c .plus-32 .result) = search needs in
+    let summed = simp (toZ-ofZ (more-fits a), toZ-ofZ (more-wide a), toZ-ofZ (total-fits a)) at (c .plus-32 .ensures) in
+    (omega arith, fill-next 32 _ (omega (arith, s a .pre .few)) (a .before .before .before .loop .inv .1) (toZ-ofZ fits ∙ summed))
 
 returns : tie.Need-returns Inv-loop μ-loop
 returns c = fill-end 32 _ (omega arith) (c .before .loop .inv .1)
@@ -73,8 +73,8 @@ with-amounts-spec =
     (search needs)
     (search needs)
     (search needs)
-    cast-after
-    add-after
+    cast-plus-32
+    plus-32-requires
     (search needs)
     (search needs)
     (search needs)
