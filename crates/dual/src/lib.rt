@@ -89,13 +89,13 @@ fn load<'a>(n: usize, i: usize, coefficient: &'a [i16; 512], amounts: &'a [i16; 
     requires { ⌜ (n ≤ 32) × ((i < 16) × SumFits w32 (pos 0) (λ j. at (now coefficient) (32 * i + j) *ℤ at (now amounts) j) n) ⌝ }
     ensures { λ r. ⌜ r ≡ sumTo n (λ j. at (now (coefficient .entry)) (32 * i + j) *ℤ at (now (amounts .entry)) j) ⌝ }
 {
-    let mut sum: i32 = 0;
+    let mut total: i32 = 0;
     let mut j: usize = 0;
     while j < n {
-        sum = plus_product_32(sum, coefficient[32 * i + j], amounts[j]);
+        total = plus_product_32(total, coefficient[32 * i + j], amounts[j]);
         j += 1;
     }
-    sum
+    total
 }
 
 // The residuals of amounts.
@@ -186,14 +186,14 @@ pub fn greatest_value<'a>(
     requires { ⌜ EndsAsked (problemIn n 0 0 scale (now cost) (now least) (now most) [] []) (greatestEnd (problemIn n 0 0 scale (now cost) (now least) (now most) [] [])) ⌝ }
     ensures { λ r. ⌜ r ≡ pos scale *ℤ greatestCost (problemIn n 0 0 scale (now (cost .entry)) (now (least .entry)) (now (most .entry)) [] []) ⌝ }
 {
-    let mut sum: i32 = 0;
+    let mut greatest: i32 = 0;
     let mut j: usize = 0;
     while j < n {
         let c = cost[j];
-        sum = plus_product_32(sum, c, dear_end(c, least[j], most[j]));
+        greatest = plus_product_32(greatest, c, dear_end(c, least[j], most[j]));
         j += 1;
     }
-    (scale as i64) * (sum as i64)
+    (scale as i64) * (greatest as i64)
 }
 
 // D times the cheapest cost that the bounds allow.
@@ -207,14 +207,14 @@ pub fn cheapest_value<'a>(
     requires { ⌜ EndsAsked (problemIn n 0 0 scale (now cost) (now least) (now most) [] []) (cheapestEnd (problemIn n 0 0 scale (now cost) (now least) (now most) [] [])) ⌝ }
     ensures { λ r. ⌜ r ≡ pos scale *ℤ cheapestCost (problemIn n 0 0 scale (now (cost .entry)) (now (least .entry)) (now (most .entry)) [] []) ⌝ }
 {
-    let mut sum: i32 = 0;
+    let mut cheapest: i32 = 0;
     let mut j: usize = 0;
     while j < n {
         let c = cost[j];
-        sum = plus_product_32(sum, c, end_at(c as i64, least[j], most[j]));
+        cheapest = plus_product_32(cheapest, c, end_at(c as i64, least[j], most[j]));
         j += 1;
     }
-    (scale as i64) * (sum as i64)
+    (scale as i64) * (cheapest as i64)
 }
 
 // The cost of sums of amounts, over up to 4,096 steps.

@@ -182,9 +182,10 @@ impl State {
         let multipliers = next.multipliers;
         let old_sums = self.sums;
         let old_totals = self.totals;
+        let old_low = self.low;
         let sums = with_amounts(n, &old_sums, &x);
         let totals = with_residuals(m, &old_totals, &g);
-        let low = larger(self.low, v);
+        let low = larger(old_low, v);
         Stepped {
             stop: Stop::Going,
             state: State {

@@ -26,10 +26,10 @@ abbrev costAt : Problem → ℕ → ℤ
 costAt P j = P .cost j *ℤ cheapestEnd P j
 
 abbrev Inv-loop : tie.InvT-loop
-Inv-loop n scale cost least most sum₀ j₀ sum j = (j ≤ n) × (toZ w32 sum ≡ sumFrom (pos 0) (costAt (given n scale cost least most)) j)
+Inv-loop n scale cost least most cheapest₀ j₀ cheapest j = (j ≤ n) × (toZ w32 cheapest ≡ sumFrom (pos 0) (costAt (given n scale cost least most)) j)
 
 abbrev μ-loop : tie.MeasureT-loop
-μ-loop n scale cost least most sum₀ j₀ sum j = n - j
+μ-loop n scale cost least most cheapest₀ j₀ cheapest j = n - j
 
 loop-holds : tie.Need-loop-holds Inv-loop μ-loop
 loop-holds c = (omega arith, simp (sumTo-zero, +ℤ-idr))
@@ -58,7 +58,7 @@ module _ (c : tie.After-end-at Inv-loop μ-loop) where
       let end-fits : SFits w16 (c .end-at .result) = search needs in
       toZ-ofZ end-fits ∙ (simp (toZ-ofZ c-fits, toZ-ofZ (wider {v = w16} {w = w64} tt c-fits), toZ-ofZ least-fits, toZ-ofZ most-fits) at (c .end-at .ensures))
 
-  was : toZ w32 (loop .loop .sum) ≡ sumFrom (pos 0) (costAt P) j
+  was : toZ w32 (loop .loop .cheapest) ≡ sumFrom (pos 0) (costAt P) j
   was = loop .loop .inv .1
 
 cast-end-at : tie.Need-cast-end-at Inv-loop μ-loop
@@ -90,7 +90,7 @@ module _ (c : tie.After-loop Inv-loop μ-loop) where
   scale-is : toZ w64 (start .args .scale) ≡ pos (start .args .scale)
   scale-is = small-is w64 {N = 1024} tt (start .pre .sized .scale)
 
-  sum-is : toZ w32 (c .before .loop .sum) ≡ cheapestCost Q
+  sum-is : toZ w32 (c .before .loop .cheapest) ≡ cheapestCost Q
   unfolding cheapestCost costOf
   sum-is =
       let all : c .before .loop .j ≡ start .args .n = omega arith in

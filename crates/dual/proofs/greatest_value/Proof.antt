@@ -26,10 +26,10 @@ abbrev costAt : Problem → ℕ → ℤ
 costAt P j = P .cost j *ℤ greatestEnd P j
 
 abbrev Inv-loop : tie.InvT-loop
-Inv-loop n scale cost least most sum₀ j₀ sum j = (j ≤ n) × (toZ w32 sum ≡ sumFrom (pos 0) (costAt (given n scale cost least most)) j)
+Inv-loop n scale cost least most greatest₀ j₀ greatest j = (j ≤ n) × (toZ w32 greatest ≡ sumFrom (pos 0) (costAt (given n scale cost least most)) j)
 
 abbrev μ-loop : tie.MeasureT-loop
-μ-loop n scale cost least most sum₀ j₀ sum j = n - j
+μ-loop n scale cost least most greatest₀ j₀ greatest j = n - j
 
 loop-holds : tie.Need-loop-holds Inv-loop μ-loop
 loop-holds c = (omega arith, simp (sumTo-zero, +ℤ-idr))
@@ -58,7 +58,7 @@ module _ (c : tie.After-dear-end Inv-loop μ-loop) where
       let end-fits : SFits w16 (c .dear-end .result) = search needs in
       toZ-ofZ end-fits ∙ (simp (toZ-ofZ c-fits, toZ-ofZ least-fits, toZ-ofZ most-fits) at (c .dear-end .ensures))
 
-  was : toZ w32 (loop .loop .sum) ≡ sumFrom (pos 0) (costAt P) j
+  was : toZ w32 (loop .loop .greatest) ≡ sumFrom (pos 0) (costAt P) j
   was = loop .loop .inv .1
 
 plus-product-32-requires : tie.Need-plus-product-32-requires Inv-loop μ-loop
@@ -85,7 +85,7 @@ module _ (c : tie.After-loop Inv-loop μ-loop) where
   scale-is : toZ w64 (start .args .scale) ≡ pos (start .args .scale)
   scale-is = small-is w64 {N = 1024} tt (start .pre .sized .scale)
 
-  sum-is : toZ w32 (c .before .loop .sum) ≡ greatestCost Q
+  sum-is : toZ w32 (c .before .loop .greatest) ≡ greatestCost Q
   unfolding greatestCost costOf
   sum-is =
       let all : c .before .loop .j ≡ start .args .n = omega arith in

@@ -18,10 +18,10 @@ abbrev product : ℕ → List ℤ → List ℤ → ℕ → ℤ
 product i coefficient amounts j = at coefficient (32 * i + j) *ℤ at amounts j
 
 abbrev Inv-loop : tie.InvT-loop
-Inv-loop n i coefficient amounts sum₀ j₀ sum j = (j ≤ n) × (toZ w32 sum ≡ sumFrom (pos 0) (product i coefficient amounts) j)
+Inv-loop n i coefficient amounts total₀ j₀ total j = (j ≤ n) × (toZ w32 total ≡ sumFrom (pos 0) (product i coefficient amounts) j)
 
 abbrev μ-loop : tie.MeasureT-loop
-μ-loop n i coefficient amounts sum₀ j₀ sum j = n - j
+μ-loop n i coefficient amounts total₀ j₀ total j = n - j
 
 loop-holds : tie.Need-loop-holds Inv-loop μ-loop
 loop-holds c = (omega arith, simp (sumTo-zero, +ℤ-idr))
@@ -43,7 +43,7 @@ module _ (c : tie.After-plus-product-32-arg2 Inv-loop μ-loop) where
   amount-fits : SFits w16 (at (s .args .amounts .now) j)
   amount-fits = search needs
 
-  was : toZ w32 (c .before .before .before .loop .sum) ≡ sumFrom (pos 0) term j
+  was : toZ w32 (c .before .before .before .loop .total) ≡ sumFrom (pos 0) term j
   was = c .before .before .before .loop .inv .1
 
 plus-product-32-requires : tie.Need-plus-product-32-requires Inv-loop μ-loop

@@ -202,14 +202,14 @@ module _ (c : tie.Else2) where
 
 with-amounts-requires : tie.Need-with-amounts-requires
 with-amounts-requires c κs =
-    let e = c .before .before .before .before .before in
+    let e = c .before .before .before .before .before .before in
     let s = s-e e in
     let fits = sums-fit (f s) (f s .steps) (accepted s) (t s) (large s) in
     transport (λ k. TotalsFit w32 32 (f s .materials) (sym (sums-are s) k) (sym (x-reads (x-e e)) k)) fits
 
 with-residuals-requires : tie.Need-with-residuals-requires
 with-residuals-requires c κs =
-    let e = c .before .before .before .before .before .before .before .before in
+    let e = c .before .before .before .before .before .before .before .before .before in
     let s = s-e e in
     let fits = totals-fit (f s) (f s .steps) (accepted s) (t s) (large s) in
     transport (λ k. TotalsFit w64 16 (f s .limits) (sym (totals-are s) k) (sym (g-reads (g-e e)) k)) fits
@@ -217,13 +217,13 @@ with-residuals-requires c κs =
 -- ---- the state after the step
 module _ (c : tie.After-larger) where
   abbrev totals-of : tie.After-with-residuals
-  totals-of = c .before .before
+  totals-of = c .before
 
   abbrev sums-of : tie.After-with-amounts
   sums-of = totals-of .before .before .before
 
   abbrev going : tie.Else2
-  going = sums-of .before .before .before .before .before .before
+  going = sums-of .before .before .before .before .before .before .before
 
   abbrev s-l : tie.Start
   s-l = s-e going
