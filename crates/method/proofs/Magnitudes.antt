@@ -1,7 +1,7 @@
 -- What the functions of a step ask follows from the magnitudes of the run.
 use mathlib.Core.Path.{_≡_, sym, ap, subst}
 use mathlib.Core.List.{List, []}
-use Prim.Native.Nat.{ℕ, _≤_, _<_, zero-le}
+use Prim.Native.Nat.{ℕ, _≤_, zero-le}
 use native.Mathlib.Nat.{lt-of-lt-of-le}
 use lib.Dec.{lit≤}
 use lib.IntN.{ℤ, pos, _+ℤ_, _*ℤ_}
@@ -19,7 +19,7 @@ use Rattle.margins.specs.RunSteps.{entering, amounts, residuals, residuals-are}
 use Rattle.margins.specs.RunMagnitudes.{RunMagnitudes}
 use Rattle.figures.specs.declared.Figures.{Figures}
 use Rattle.figures.specs.Figures.{problemIn, problemOf}
-use Rattle.dual.specs.Asked.{Sized, AmountsAsked, ResidualsAsked, DualValueAsked, EndsAsked, SumsAsked}
+use Rattle.dual.specs.Asked.{AmountsAsked, ResidualsAsked, DualValueAsked, EndsAsked, SumsAsked}
 use Rattle.method.specs.Asked.{MoveAsked, TotalsFit}
 
 -- the cost of amounts asks for n, D and the costs alone

@@ -8,7 +8,7 @@ use Rattle.rules.specs.declared.Refusal.{Refusal}
 use Rattle.rules.specs.Problem.{Problem}
 use Rattle.rules.specs.Step.{infeasible, diverged}
 use Rattle.rules.specs.Run.{stateAfter, stepAt}
-use Rattle.rules.specs.Refusals.{Numbered, numberOf, numbered, refuse}
+use Rattle.rules.specs.Refusals.{Numbered, numbered}
 use Rattle.rules.specs.Answers.{stepRefusal}
 use Rattle.laws.specs.FirstPlace.{refuse-yes, refuse-no, given, handed-on, first-more, first-found}
 use Rattle.method.specs.declared.State.{State}

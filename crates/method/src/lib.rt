@@ -1,9 +1,8 @@
 // The dual subgradient method with a constant step: one step on a state by value, and the run of k steps, or refusals 9 and 10.
 ghost use mathlib.Core.Bool.{cond};
-ghost use mathlib.Core.List.{List};
 ghost use mathlib.Core.Path.{_≡_};
-ghost use Prim.Native.Nat.{ℕ, suc, _≤_};
-ghost use lib.IntN.{ℤ, pos, _+ℤ_, _-ℤ_};
+ghost use Prim.Native.Nat.{suc};
+ghost use lib.IntN.{_+ℤ_, _-ℤ_};
 ghost use mir.Syntax.{w32, w64};
 ghost use mir.Val.{SFits};
 ghost use Rattle.integer.specs.Order.{maxℤ};

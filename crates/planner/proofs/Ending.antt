@@ -1,5 +1,5 @@
 -- How planning ends: with a refusal and the buffer as lent, or with a plan and its record.
-use mathlib.Core.Path.{_≡_, sym, ap, subst, transport, _∙_}
+use mathlib.Core.Path.{_≡_, sym, subst, transport, _∙_}
 use mathlib.Core.List.{List, _++_}
 use mathlib.Core.Option.{Option, none, some}
 use Prim.Native.Nat.{ℕ}
@@ -10,7 +10,7 @@ use Rattle.rules.specs.declared.Answer.{Answer}
 use Rattle.rules.specs.declared.Refusal.{Refusal}
 use Rattle.rules.specs.Problem.{Problem}
 use Rattle.rules.specs.Step as step
-use Rattle.rules.specs.Run.{Plan, stateAfter, gapAfter, planAfter}
+use Rattle.rules.specs.Run.{Plan, stateAfter, planAfter}
 use Rattle.rules.specs.Record.{recordOf, recordLength}
 use Rattle.rules.specs.Refusals.{Numbered, numbered}
 use Rattle.rules.specs.Answers.{plan, refusal, planOf, outcome, outcomeOf, answer, bufferOf, bufferAfter}

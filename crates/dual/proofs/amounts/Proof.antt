@@ -2,23 +2,22 @@
 use mathlib.Core.Path.{_≡_, sym, ap, _∙_}
 use mathlib.Core.Bool.{cond}
 use mathlib.Core.List.{List, []}
-use Prim.Native.Nat.{ℕ, _+_, _*_, _-_, _<_, _≤_}
+use Prim.Native.Nat.{ℕ, _-_, _<_, _≤_}
 use native.Mathlib.Nat.{lt-of-lt-of-le}
 use native.Mathlib.Omega.{arith}
-use lib.IntN.{ℤ, pos, _+ℤ_, _*ℤ_}
+use lib.IntN.{ℤ, pos, _*ℤ_}
 use lib.Signed.{ltZ}
 use mir.Syntax.{w16, w64}
-use mir.Val.{SFits, toZ, ofZ}
+use mir.Val.{SFits, toZ}
 use mir.Facts.{toZ-ofZ}
 use borrow.Author.Needs.{needs}
 use Rattle.integer.specs.Range.{wider, small-fits, small-is}
-use Rattle.integer.specs.Sum.{sumTo}
 use Rattle.integer.specs.Vector.{at}
 use Rattle.rules.specs.Problem.{Problem}
 use Rattle.rules.specs.Step.{reducedCost, amount}
 use Rattle.figures.specs.Padded.{filled, fill-start, fill-next, fill-end}
 use Rattle.figures.specs.Figures.{problemIn}
-use Rattle.dual.specs.Asked.{SumFits, AmountsAsked}
+use Rattle.dual.specs.Asked.{SumFits}
 use Rattle.dual.proofs.amounts.Statement.{statement}
 use Rattle.dual.proofs.amounts.Tie as tie
 

@@ -1,7 +1,7 @@
 -- The test is the definition's, so each arm has its end.
 use mathlib.Core.Path.{_≡_}
 use mathlib.Core.Bool.{true, false}
-use lib.IntN.{ℤ, pos}
+use lib.IntN.{pos}
 use lib.Signed.{ltZ}
 use mir.Facts.{toZ-ofZ}
 use Rattle.dual.proofs.dear_end.Statement.{statement}

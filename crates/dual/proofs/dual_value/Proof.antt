@@ -25,9 +25,6 @@ module _ (s : tie.Start) where
   abbrev x : ℕ → ℤ
   x = at (s .args .amounts .now)
 
-  abbrev g : ℕ → ℤ
-  g = at (s .args .residuals .now)
-
   scale-is : toZ w64 (s .args .scale) ≡ pos (s .args .scale)
   scale-is = small-is w64 {N = 1024} tt (s .pre .sized .scale)
 

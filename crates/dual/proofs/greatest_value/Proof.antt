@@ -9,7 +9,7 @@ use mir.Syntax.{w16, w32, w64}
 use mir.Val.{SFits, toZ, ofZ}
 use mir.Facts.{toZ-ofZ}
 use borrow.Author.Needs.{needs}
-use Rattle.integer.specs.Range.{wider, small-fits, small-is}
+use Rattle.integer.specs.Range.{small-fits, small-is}
 use Rattle.integer.specs.Sum.{sumTo-zero}
 use Rattle.rules.specs.Problem.{Problem, costOf}
 use Rattle.rules.specs.Step.{greatestCost}

@@ -1,6 +1,6 @@
 -- The sums and low are those after the last step, so the figures are those of `gapAfter`.
 use mathlib.Core.Path.{_≡_, sym, subst, _∙_}
-use lib.IntN.{ℤ, pos, _-ℤ_, _*ℤ_}
+use lib.IntN.{pos, _*ℤ_}
 use mir.Syntax.{w64}
 use mir.Val.{SFits, toZ, ofZ}
 use mir.Facts.{toZ-ofZ}

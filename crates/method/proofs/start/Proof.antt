@@ -1,5 +1,5 @@
 -- Every multiplier and total is 0, and low is D times the cheapest cost, which is the dual value at multipliers of 0.
-use mathlib.Core.Path.{_≡_, sym, _∙_}
+use mathlib.Core.Path.{sym, _∙_}
 use mir.Syntax.{w64}
 use mir.Val.{SFits}
 use mir.Facts.{toZ-ofZ}
