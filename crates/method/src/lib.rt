@@ -150,6 +150,21 @@ fn stopped(state: State, t: usize, cause: Cause) -> Stepped
     }
 }
 
+// A step that is done, with the state after it.
+fn going(multipliers: [i32; 16], sums: [i32; 32], totals: [i64; 16], low: i64) -> Stepped
+    ensures { λ r. ⌜ r ≡ record { stop = Stop.Going; state = record { multipliers = multipliers; sums = sums; totals = totals; low = low } } ⌝ }
+{
+    Stepped {
+        stop: Stop::Going,
+        state: State {
+            multipliers: multipliers,
+            sums: sums,
+            totals: totals,
+            low: low,
+        },
+    }
+}
+
 impl State {
     // Step t, with D times the greatest cost.
     pub fn step(self, f: Figures, greatest: i64, t: usize) -> Stepped
@@ -185,15 +200,7 @@ impl State {
         let sums = with_amounts(n, &old_sums, &x);
         let totals = with_residuals(m, &old_totals, &g);
         let low = larger(old_low, v);
-        Stepped {
-            stop: Stop::Going,
-            state: State {
-                multipliers: multipliers,
-                sums: sums,
-                totals: totals,
-                low: low,
-            },
-        }
+        going(multipliers, sums, totals, low)
     }
 }
 

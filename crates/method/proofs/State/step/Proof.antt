@@ -241,15 +241,18 @@ module _ (c : tie.After-larger) where
 returns-3 : tie.Need-returns-3
 unfolding arraysOf stateAfter next stepAt
 returns-3 c =
-    let e = going c in
-    let s = s-l c in
-    hands-state (P s) (suc (t s)) refl (not-refused (P s) (t s) (feasible (at-m e)) (converges e))
-    (λ k. record {
+    let l = c .before in
+    let e = going l in
+    let s = s-l l in
+    let told = c .going .ensures in
+    hands-state (P s) (suc (t s)) (λ k. told k .stop) (not-refused (P s) (t s) (feasible (at-m e)) (converges e))
+    ((λ k. told k .state)
+    ∙ (λ k. record {
       multipliers = multipliers-are e k;
-      sums = (sums-of c .with-amounts .ensures ∙ (λ i. padded 32 (tabulate (P s .materials) (λ j. sums-are s i j +ℤ x-reads (x-e e) i j)))) k;
-      totals = (totals-of c .with-residuals .ensures ∙ (λ i. padded 16 (tabulate (P s .limits) (λ j. totals-are s i j +ℤ g-reads (g-e e) i j)))) k;
-      low = low-is c k;
-    })
+      sums = (sums-of l .with-amounts .ensures ∙ (λ i. padded 32 (tabulate (P s .materials) (λ j. sums-are s i j +ℤ x-reads (x-e e) i j)))) k;
+      totals = (totals-of l .with-residuals .ensures ∙ (λ i. padded 16 (tabulate (P s .limits) (λ j. totals-are s i j +ℤ g-reads (g-e e) i j)))) k;
+      low = low-is l k;
+    }))
 
 pub step-spec : {M : Type 1} → statement M
 step-spec =
@@ -265,5 +268,6 @@ step-spec =
     returns-2
     with-amounts-requires
     with-residuals-requires
+    (λ c κs. search needs)
     (λ c κs. search needs)
     returns-3)
