@@ -1,5 +1,5 @@
 -- Each call gives what step t works out, and what comes back is what the step hands back.
-use mathlib.Core.Path.{_≡_, refl, sym, subst, transport, _∙_}
+use mathlib.Core.Path.{_≡_, sym, subst, transport, _∙_}
 use mathlib.Core.Bool.{false, cond}
 use mathlib.Core.List.{List, []}
 use Prim.Native.Nat.{ℕ, suc}
