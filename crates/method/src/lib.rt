@@ -50,8 +50,8 @@ pub struct Stepped {
 
 // The multipliers after a step. Where one diverged they are as before it.
 struct Move {
-    diverged: bool,
     multipliers: [i32; 16],
+    diverged: bool,
 }
 
 // The larger of two.
@@ -80,16 +80,16 @@ fn moved<'a>(
         let moved = larger(0, old + p * (residuals[i] as i64));
         if 1073741824 < moved {
             return Move {
-                diverged: true,
                 multipliers: *multipliers,
+                diverged: true,
             };
         }
         next[i] = moved as i32;
         i += 1;
     }
     Move {
-        diverged: false,
         multipliers: next,
+        diverged: false,
     }
 }
 
