@@ -1,6 +1,5 @@
 // The dual function at given multipliers: the amounts that minimise the Lagrangian, their residuals, and the dual value.
 ghost use mathlib.Core.Bool.{cond};
-ghost use mathlib.Core.List.{[]};
 ghost use mathlib.Core.Path.{_≡_};
 ghost use Prim.Native.Nat.{_+_, _*_, _<_, _≤_};
 ghost use lib.IntN.{pos, _+ℤ_, _*ℤ_};
@@ -13,7 +12,7 @@ ghost use Rattle.rules.specs.Problem.{costOf};
 ghost use Rattle.rules.specs.Step.{amount, residual, greatestCost};
 ghost use Rattle.margins.specs.CostRange.{cheapestEnd, greatestEnd, cheapestCost};
 ghost use Rattle.figures.specs.Padded.{padded};
-ghost use Rattle.figures.specs.Figures.{problemIn};
+ghost use Rattle.dual.specs.Given.{withoutBounds, limitsOnly, materialsOnly, costsOnly, valueFrom};
 ghost use Rattle.dual.specs.Asked.{SumFits, AmountsAsked, ResidualsAsked, DualValueAsked, EndsAsked, SumsAsked};
 
 // sum + x·y, in 32 bits.
@@ -70,8 +69,8 @@ pub fn amounts<'a>(
     coefficient: &'a [i16; 512],
     multipliers: &'a [i32; 16],
 ) -> [i16; 32]
-    requires { ⌜ AmountsAsked (problemIn n m 0 scale (now cost) (now least) (now most) (now coefficient) []) (at (now multipliers)) ⌝ }
-    ensures { λ r. ⌜ r ≡ padded 32 (tabulate n (amount (problemIn n m 0 scale (now (cost .entry)) (now (least .entry)) (now (most .entry)) (now (coefficient .entry)) []) (at (now (multipliers .entry))))) ⌝ }
+    requires { ⌜ AmountsAsked (withoutBounds n m scale (now cost) (now least) (now most) (now coefficient)) (at (now multipliers)) ⌝ }
+    ensures { λ r. ⌜ r ≡ padded 32 (tabulate n (amount (withoutBounds n m scale (now (cost .entry)) (now (least .entry)) (now (most .entry)) (now (coefficient .entry))) (at (now (multipliers .entry))))) ⌝ }
 {
     let d = scale as i64;
     let mut x: [i16; 32] = [0; 32];
@@ -106,8 +105,8 @@ pub fn residuals<'a>(
     bound: &'a [i32; 16],
     amounts: &'a [i16; 32],
 ) -> [i32; 16]
-    requires { ⌜ ResidualsAsked (problemIn n m 0 0 [] [] [] (now coefficient) (now bound)) (at (now amounts)) ⌝ }
-    ensures { λ r. ⌜ r ≡ padded 16 (tabulate m (residual (problemIn n m 0 0 [] [] [] (now (coefficient .entry)) (now (bound .entry))) (at (now (amounts .entry))))) ⌝ }
+    requires { ⌜ ResidualsAsked (limitsOnly n m (now coefficient) (now bound)) (at (now amounts)) ⌝ }
+    ensures { λ r. ⌜ r ≡ padded 16 (tabulate m (residual (limitsOnly n m (now (coefficient .entry)) (now (bound .entry))) (at (now (amounts .entry))))) ⌝ }
 {
     let mut g: [i32; 16] = [0; 16];
     let mut i: usize = 0;
@@ -161,8 +160,8 @@ pub fn dual_value<'a>(
     amounts: &'a [i16; 32],
     residuals: &'a [i32; 16],
 ) -> i64
-    requires { ⌜ DualValueAsked (problemIn n m 0 scale (now cost) [] [] [] []) (at (now multipliers)) (at (now amounts)) (at (now residuals)) ⌝ }
-    ensures { λ r. ⌜ r ≡ pos scale *ℤ costOf (problemIn n m 0 scale (now (cost .entry)) [] [] [] []) (at (now (amounts .entry))) +ℤ sumTo m (λ i. at (now (multipliers .entry)) i *ℤ at (now (residuals .entry)) i) ⌝ }
+    requires { ⌜ DualValueAsked (costsOnly n m scale (now cost)) (at (now multipliers)) (at (now amounts)) (at (now residuals)) ⌝ }
+    ensures { λ r. ⌜ r ≡ valueFrom (costsOnly n m scale (now (cost .entry))) (at (now (multipliers .entry))) (at (now (amounts .entry))) (at (now (residuals .entry))) ⌝ }
 {
     let scaled_cost = (scale as i64) * (cost_of(n, cost, amounts) as i64);
     with_residuals(m, scaled_cost, multipliers, residuals)
@@ -183,8 +182,8 @@ pub fn greatest_value<'a>(
     least: &'a [i16; 32],
     most: &'a [i16; 32],
 ) -> i64
-    requires { ⌜ EndsAsked (problemIn n 0 0 scale (now cost) (now least) (now most) [] []) (greatestEnd (problemIn n 0 0 scale (now cost) (now least) (now most) [] [])) ⌝ }
-    ensures { λ r. ⌜ r ≡ pos scale *ℤ greatestCost (problemIn n 0 0 scale (now (cost .entry)) (now (least .entry)) (now (most .entry)) [] []) ⌝ }
+    requires { ⌜ EndsAsked (materialsOnly n scale (now cost) (now least) (now most)) (greatestEnd (materialsOnly n scale (now cost) (now least) (now most))) ⌝ }
+    ensures { λ r. ⌜ r ≡ pos scale *ℤ greatestCost (materialsOnly n scale (now (cost .entry)) (now (least .entry)) (now (most .entry))) ⌝ }
 {
     let mut greatest: i32 = 0;
     let mut j: usize = 0;
@@ -204,8 +203,8 @@ pub fn cheapest_value<'a>(
     least: &'a [i16; 32],
     most: &'a [i16; 32],
 ) -> i64
-    requires { ⌜ EndsAsked (problemIn n 0 0 scale (now cost) (now least) (now most) [] []) (cheapestEnd (problemIn n 0 0 scale (now cost) (now least) (now most) [] [])) ⌝ }
-    ensures { λ r. ⌜ r ≡ pos scale *ℤ cheapestCost (problemIn n 0 0 scale (now (cost .entry)) (now (least .entry)) (now (most .entry)) [] []) ⌝ }
+    requires { ⌜ EndsAsked (materialsOnly n scale (now cost) (now least) (now most)) (cheapestEnd (materialsOnly n scale (now cost) (now least) (now most))) ⌝ }
+    ensures { λ r. ⌜ r ≡ pos scale *ℤ cheapestCost (materialsOnly n scale (now (cost .entry)) (now (least .entry)) (now (most .entry))) ⌝ }
 {
     let mut cheapest: i32 = 0;
     let mut j: usize = 0;
@@ -219,8 +218,8 @@ pub fn cheapest_value<'a>(
 
 // The cost of sums of amounts, over up to 4,096 steps.
 pub fn cost_of_sums<'a>(n: usize, cost: &'a [i16; 32], sums: &'a [i32; 32]) -> i64
-    requires { ⌜ SumsAsked (problemIn n 0 0 0 (now cost) [] [] [] []) (at (now sums)) ⌝ }
-    ensures { λ r. ⌜ r ≡ costOf (problemIn n 0 0 0 (now (cost .entry)) [] [] [] []) (at (now (sums .entry))) ⌝ }
+    requires { ⌜ SumsAsked (costsOnly n 0 0 (now cost)) (at (now sums)) ⌝ }
+    ensures { λ r. ⌜ r ≡ costOf (costsOnly n 0 0 (now (cost .entry))) (at (now (sums .entry))) ⌝ }
 {
     let mut sum: i64 = 0;
     let mut j: usize = 0;

@@ -19,6 +19,7 @@ use Rattle.margins.specs.RunSteps.{entering, amounts, residuals, residuals-are}
 use Rattle.margins.specs.RunMagnitudes.{RunMagnitudes}
 use Rattle.figures.specs.declared.Figures.{Figures}
 use Rattle.figures.specs.Figures.{problemIn, problemOf}
+use Rattle.dual.specs.Given.{withoutBounds, limitsOnly, materialsOnly, costsOnly}
 use Rattle.dual.specs.Asked.{AmountsAsked, ResidualsAsked, DualValueAsked, EndsAsked, SumsAsked}
 use Rattle.method.specs.Asked.{MoveAsked, TotalsFit}
 
@@ -33,21 +34,21 @@ module _ (f : Figures) (k : ℕ) (accepted : Accepted (problemOf f) k) where
   P = problemOf f
 
   -- ---- before the steps
-  ends-asked : (x : ℕ → ℤ) → CostMagnitudes P x 1000 → EndsAsked (problemIn (f .materials) 0 0 (f .scale) (f .cost) (f .least) (f .most) [] []) x
+  ends-asked : (x : ℕ → ℤ) → CostMagnitudes P x 1000 → EndsAsked (materialsOnly (f .materials) (f .scale) (f .cost) (f .least) (f .most)) x
   ends-asked x costs = record {
     sized = record { narrow = accepted .materials-few; few = zero-le; scale = accepted .scale-small };
     cost = same-costs (f .materials) (f .limits) (f .numerator) (f .scale) (f .cost) (f .least) (f .most) (f .coefficient) (f .bound) 0 (f .least) (f .most) costs;
   }
 
-  pub greatest-asked : EndsAsked (problemIn (f .materials) 0 0 (f .scale) (f .cost) (f .least) (f .most) [] []) (greatestEnd P)
+  pub greatest-asked : EndsAsked (materialsOnly (f .materials) (f .scale) (f .cost) (f .least) (f .most)) (greatestEnd P)
   greatest-asked = ends-asked (greatestEnd P) (cost-magnitudes accepted (greatestEnd P) (lit≤ tt) (amounts-bnd accepted (greatest-minimal P)))
 
-  pub cheapest-asked : EndsAsked (problemIn (f .materials) 0 0 (f .scale) (f .cost) (f .least) (f .most) [] []) (cheapestEnd P)
+  pub cheapest-asked : EndsAsked (materialsOnly (f .materials) (f .scale) (f .cost) (f .least) (f .most)) (cheapestEnd P)
   cheapest-asked = ends-asked (cheapestEnd P) (cost-magnitudes accepted (cheapestEnd P) (lit≤ tt) (amounts-bnd accepted (cheapest-minimal P)))
 
   -- ---- at step t
   module _ (t : ℕ) (large : RunMagnitudes P t) where
-    pub amounts-asked : AmountsAsked (problemIn (f .materials) (f .limits) 0 (f .scale) (f .cost) (f .least) (f .most) (f .coefficient) []) (entering P t)
+    pub amounts-asked : AmountsAsked (withoutBounds (f .materials) (f .limits) (f .scale) (f .cost) (f .least) (f .most) (f .coefficient)) (entering P t)
     amounts-asked = record {
       sized = record { narrow = accepted .materials-few; few = accepted .limits-few; scale = accepted .scale-small };
       scaled-cost = large .step .scaled-cost;
@@ -55,7 +56,7 @@ module _ (f : Figures) (k : ℕ) (accepted : Accepted (problemOf f) k) where
       part = large .step .reduced-part;
     }
 
-    pub residuals-asked : ResidualsAsked (problemIn (f .materials) (f .limits) 0 0 [] [] [] (f .coefficient) (f .bound)) (amounts P t)
+    pub residuals-asked : ResidualsAsked (limitsOnly (f .materials) (f .limits) (f .coefficient) (f .bound)) (amounts P t)
     unfolding residual loadOf
     residuals-asked = record {
       sized = record { narrow = accepted .materials-few; few = accepted .limits-few; scale = zero-le };
@@ -69,7 +70,7 @@ module _ (f : Figures) (k : ℕ) (accepted : Accepted (problemOf f) k) where
         → sumTo m (λ i. entering P t i *ℤ residual P (amounts P t) i) ≡ sumTo m (λ i. entering P t i *ℤ residuals P t i)
     by-residuals m l = sumTo-cong m _ _ (λ i h. ap (λ g. entering P t i *ℤ g) (sym (residuals-are P t i (lt-of-lt-of-le h l))))
 
-    pub dual-value-asked : DualValueAsked (problemIn (f .materials) (f .limits) 0 (f .scale) (f .cost) [] [] [] []) (entering P t) (amounts P t) (residuals P t)
+    pub dual-value-asked : DualValueAsked (costsOnly (f .materials) (f .limits) (f .scale) (f .cost)) (entering P t) (amounts P t) (residuals P t)
     unfolding costOf
     dual-value-asked = record {
       sized = record { narrow = accepted .materials-few; few = accepted .limits-few; scale = accepted .scale-small };
@@ -93,5 +94,5 @@ module _ (f : Figures) (k : ℕ) (accepted : Accepted (problemOf f) k) where
     totals-fit = record { few = accepted .limits-few; one = λ i l. large .new-total i l .fits }
 
     -- ---- after the last step
-    pub sums-asked : SumsAsked (problemIn (f .materials) 0 0 0 (f .cost) [] [] [] []) (at (stateAfter P t .sums))
+    pub sums-asked : SumsAsked (costsOnly (f .materials) 0 0 (f .cost)) (at (stateAfter P t .sums))
     sums-asked = record { narrow = accepted .materials-few; term = large .state .sums-cost .term; part = large .state .sums-cost .sum }

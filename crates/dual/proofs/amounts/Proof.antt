@@ -1,7 +1,6 @@
 -- After j turns the first j places hold the ends that their reduced costs choose.
 use mathlib.Core.Path.{_≡_, sym, ap, _∙_}
 use mathlib.Core.Bool.{cond}
-use mathlib.Core.List.{List, []}
 use Prim.Native.Nat.{ℕ, _-_, _<_, _≤_}
 use native.Mathlib.Nat.{lt-of-lt-of-le}
 use native.Mathlib.Omega.{arith}
@@ -16,17 +15,14 @@ use Rattle.integer.specs.Vector.{at}
 use Rattle.rules.specs.Problem.{Problem}
 use Rattle.rules.specs.Step.{reducedCost, amount}
 use Rattle.figures.specs.Padded.{filled, fill-start, fill-next, fill-end}
-use Rattle.figures.specs.Figures.{problemIn}
+use Rattle.dual.specs.Given.{withoutBounds}
 use Rattle.dual.specs.Asked.{SumFits}
 use Rattle.dual.proofs.amounts.Statement.{statement}
 use Rattle.dual.proofs.amounts.Tie as tie
 
-abbrev given : ℕ → ℕ → ℕ → List ℤ → List ℤ → List ℤ → List ℤ → Problem
-given n m scale cost least most coefficient = problemIn n m 0 scale cost least most coefficient []
-
 abbrev Inv-loop : tie.InvT-loop
 Inv-loop n m scale cost least most coefficient multipliers d x₀ j₀ x j =
-    (j ≤ n) × (x ≡ filled 32 (amount (given n m scale cost least most coefficient) (at multipliers)) j)
+    (j ≤ n) × (x ≡ filled 32 (amount (withoutBounds n m scale cost least most coefficient) (at multipliers)) j)
 
 abbrev μ-loop : tie.MeasureT-loop
 μ-loop n m scale cost least most coefficient multipliers d x₀ j₀ x j = n - j
@@ -46,7 +42,7 @@ module _ (c : tie.After-reduced-cost-arg Inv-loop μ-loop) where
   j = c .before .before .loop .j
 
   abbrev P : Problem
-  P = given (s .args .n) (s .args .m) (s .args .scale) (s .args .cost .now) (s .args .least .now) (s .args .most .now) (s .args .coefficient .now)
+  P = withoutBounds (s .args .n) (s .args .m) (s .args .scale) (s .args .cost .now) (s .args .least .now) (s .args .most .now) (s .args .coefficient .now)
 
   abbrev M : ℕ → ℤ
   M = at (s .args .multipliers .now)

@@ -1,6 +1,5 @@
 -- After j turns the sum has the costs of the first j materials.
 use mathlib.Core.Path.{_≡_, _∙_}
-use mathlib.Core.List.{List, []}
 use Prim.Native.Nat.{ℕ, _-_, _≤_}
 use native.Mathlib.Nat.{le-refl}
 use native.Mathlib.Omega.{arith}
@@ -14,19 +13,16 @@ use Rattle.integer.specs.Sum.{sumTo-zero}
 use Rattle.integer.specs.Vector.{at}
 use Rattle.rules.specs.Problem.{Problem, costOf}
 use Rattle.margins.specs.CostRange.{cheapestEnd, cheapestCost}
-use Rattle.figures.specs.Figures.{problemIn}
+use Rattle.dual.specs.Given.{materialsOnly}
 use Rattle.dual.proofs.Sums.{sumFrom, sum-next, sum-fits, cost-fits}
 use Rattle.dual.proofs.cheapest_value.Statement.{statement}
 use Rattle.dual.proofs.cheapest_value.Tie as tie
-
-abbrev given : ℕ → ℕ → List ℤ → List ℤ → List ℤ → Problem
-given n scale cost least most = problemIn n 0 0 scale cost least most [] []
 
 abbrev costAt : Problem → ℕ → ℤ
 costAt P j = P .cost j *ℤ cheapestEnd P j
 
 abbrev Inv-loop : tie.InvT-loop
-Inv-loop n scale cost least most cheapest₀ j₀ cheapest j = (j ≤ n) × (toZ w32 cheapest ≡ sumFrom (pos 0) (costAt (given n scale cost least most)) j)
+Inv-loop n scale cost least most cheapest₀ j₀ cheapest j = (j ≤ n) × (toZ w32 cheapest ≡ sumFrom (pos 0) (costAt (materialsOnly n scale cost least most)) j)
 
 abbrev μ-loop : tie.MeasureT-loop
 μ-loop n scale cost least most cheapest₀ j₀ cheapest j = n - j
@@ -46,7 +42,7 @@ module _ (c : tie.After-end-at Inv-loop μ-loop) where
   j = loop .loop .j
 
   abbrev P : Problem
-  P = given (s .args .n) (s .args .scale) (s .args .cost .now) (s .args .least .now) (s .args .most .now)
+  P = materialsOnly (s .args .n) (s .args .scale) (s .args .cost .now) (s .args .least .now) (s .args .most .now)
 
   c-fits : SFits w16 (P .cost j)
   c-fits = search needs
@@ -85,7 +81,7 @@ module _ (c : tie.After-loop Inv-loop μ-loop) where
   start = c .before .before
 
   abbrev Q : Problem
-  Q = given (start .args .n) (start .args .scale) (start .args .cost .now) (start .args .least .now) (start .args .most .now)
+  Q = materialsOnly (start .args .n) (start .args .scale) (start .args .cost .now) (start .args .least .now) (start .args .most .now)
 
   scale-is : toZ w64 (start .args .scale) ≡ pos (start .args .scale)
   scale-is = small-is w64 {N = 1024} tt (start .pre .sized .scale)

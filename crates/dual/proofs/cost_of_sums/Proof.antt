@@ -1,6 +1,6 @@
 -- After j turns the sum has its first j products.
 use mathlib.Core.Path.{_≡_, _∙_}
-use mathlib.Core.List.{List, []}
+use mathlib.Core.List.{List}
 use Prim.Native.Nat.{ℕ, _-_, _≤_}
 use native.Mathlib.Omega.{arith}
 use lib.IntN.{ℤ, pos, _*ℤ_, +ℤ-idl, +ℤ-idr}
@@ -12,7 +12,7 @@ use Rattle.integer.specs.Range.{wider}
 use Rattle.integer.specs.Sum.{sumTo-zero}
 use Rattle.integer.specs.Vector.{at}
 use Rattle.rules.specs.Problem.{Problem, costOf}
-use Rattle.figures.specs.Figures.{problemIn}
+use Rattle.dual.specs.Given.{costsOnly}
 use Rattle.dual.specs.Asked.{SumFits, SumsAsked}
 use Rattle.dual.proofs.Sums.{sumFrom, sum-next, sum-fits}
 use Rattle.dual.proofs.cost_of_sums.Statement.{statement}
@@ -63,7 +63,7 @@ module _ (c : tie.After-plus-product-64-arg2 Inv-loop μ-loop) where
 
 plus-product-64-requires : tie.Need-plus-product-64-requires Inv-loop μ-loop
 plus-product-64-requires c κs =
-    let fits = products-fit (problemIn (s c .args .n) 0 0 0 (s c .args .cost .now) [] [] [] []) (at (s c .args .sums .now)) (s c .pre) in
+    let fits = products-fit (costsOnly (s c .args .n) 0 0 (s c .args .cost .now)) (at (s c .args .sums .now)) (s c .pre) in
     simp (cost-is c, sum-is c, was c) (fits .one (j c) (omega arith), sum-fits (pos 0) (term c) fits (omega arith))
 
 loop-again : tie.Need-loop-again Inv-loop μ-loop

@@ -1,6 +1,5 @@
 -- D times the cost, and then the residuals' part.
 use mathlib.Core.Path.{_≡_, _∙_}
-use mathlib.Core.List.{[]}
 use Prim.Native.Nat.{ℕ}
 use lib.IntN.{ℤ, pos, _*ℤ_}
 use mir.Syntax.{w32, w64}
@@ -10,14 +9,14 @@ use borrow.Author.Needs.{needs}
 use Rattle.integer.specs.Range.{wider, small-fits, small-is}
 use Rattle.integer.specs.Vector.{at}
 use Rattle.rules.specs.Problem.{Problem, costOf}
-use Rattle.figures.specs.Figures.{problemIn}
+use Rattle.dual.specs.Given.{costsOnly, valueFrom}
 use Rattle.dual.proofs.Sums.{cost-fits}
 use Rattle.dual.proofs.dual_value.Statement.{statement}
 use Rattle.dual.proofs.dual_value.Tie as tie
 
 module _ (s : tie.Start) where
   abbrev P : Problem
-  P = problemIn (s .args .n) (s .args .m) 0 (s .args .scale) (s .args .cost .now) [] [] [] []
+  P = costsOnly (s .args .n) (s .args .m) (s .args .scale) (s .args .cost .now)
 
   abbrev M : ℕ → ℤ
   M = at (s .args .multipliers .now)
@@ -68,6 +67,7 @@ with-residuals-requires c κs =
     (asked .sized .few, record { one = λ i l. asked .term i l .fits; part = λ i l. asked .part i l .fits })
 
 returns : tie.Need-returns
+unfolding valueFrom
 returns c =
     let a = c .before in
     let result-fits : SFits w64 (c .with-residuals .result) = search needs in

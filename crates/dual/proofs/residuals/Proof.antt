@@ -1,6 +1,5 @@
 -- After i turns the first i places hold their residuals.
 use mathlib.Core.Path.{_≡_, sym}
-use mathlib.Core.List.{List, []}
 use Prim.Native.Nat.{ℕ, _-_, _<_, _≤_}
 use native.Mathlib.Nat.{lt-of-lt-of-le}
 use native.Mathlib.Omega.{arith}
@@ -14,16 +13,13 @@ use Rattle.integer.specs.Vector.{at}
 use Rattle.rules.specs.Problem.{Problem, loadOf}
 use Rattle.rules.specs.Step.{residual}
 use Rattle.figures.specs.Padded.{filled, fill-start, fill-next, fill-end}
-use Rattle.figures.specs.Figures.{problemIn}
+use Rattle.dual.specs.Given.{limitsOnly}
 use Rattle.dual.specs.Asked.{SumFits, ResidualsAsked}
 use Rattle.dual.proofs.residuals.Statement.{statement}
 use Rattle.dual.proofs.residuals.Tie as tie
 
-abbrev limitsIn : ℕ → ℕ → List ℤ → List ℤ → Problem
-limitsIn n m coefficient bound = problemIn n m 0 0 [] [] [] coefficient bound
-
 abbrev Inv-loop : tie.InvT-loop
-Inv-loop n m coefficient bound amounts g₀ i₀ g i = (i ≤ m) × (g ≡ filled 16 (residual (limitsIn n m coefficient bound) (at amounts)) i)
+Inv-loop n m coefficient bound amounts g₀ i₀ g i = (i ≤ m) × (g ≡ filled 16 (residual (limitsOnly n m coefficient bound) (at amounts)) i)
 
 abbrev μ-loop : tie.MeasureT-loop
 μ-loop n m coefficient bound amounts g₀ i₀ g i = m - i
@@ -41,7 +37,7 @@ load-fits P x i asked l = record {
 load-requires : tie.Need-load-requires Inv-loop μ-loop
 load-requires c κs =
     let s = c .before .before in
-    let P = limitsIn (s .args .n) (s .args .m) (s .args .coefficient .now) (s .args .bound .now) in
+    let P = limitsOnly (s .args .n) (s .args .m) (s .args .coefficient .now) (s .args .bound .now) in
     let l : c .before .loop .i < s .args .m = omega arith in
     (s .pre .sized .narrow, (lt-of-lt-of-le l (s .pre .sized .few), load-fits P (at (s .args .amounts .now)) (c .before .loop .i) (s .pre) l))
 
@@ -54,7 +50,7 @@ module _ (c : tie.After-g Inv-loop μ-loop) where
   i = c .before .before .before .loop .i
 
   abbrev P : Problem
-  P = limitsIn (s .args .n) (s .args .m) (s .args .coefficient .now) (s .args .bound .now)
+  P = limitsOnly (s .args .n) (s .args .m) (s .args .coefficient .now) (s .args .bound .now)
 
   abbrev x : ℕ → ℤ
   x = at (s .args .amounts .now)

@@ -1,7 +1,7 @@
 -- Each call gives what step t works out, and what comes back is what the step hands back.
 use mathlib.Core.Path.{_≡_, sym, subst, transport, _∙_}
 use mathlib.Core.Bool.{false, cond}
-use mathlib.Core.List.{List, []}
+use mathlib.Core.List.{List}
 use Prim.Native.Nat.{ℕ, suc}
 use lib.IntN.{ℤ, pos, _+ℤ_, _*ℤ_}
 use lib.Signed.{ltZ}
@@ -21,7 +21,8 @@ use Rattle.margins.specs.RunSteps.{entering, amounts, residuals}
 use Rattle.margins.specs.RunMagnitudes.{RunMagnitudes, run-magnitudes}
 use Rattle.figures.specs.declared.Figures.{Figures}
 use Rattle.figures.specs.Padded.{padded}
-use Rattle.figures.specs.Figures.{problemIn, problemOf}
+use Rattle.figures.specs.Figures.{problemOf}
+use Rattle.dual.specs.Given.{costsOnly, valueFrom}
 use Rattle.dual.specs.Asked.{AmountsAsked, ResidualsAsked, DualValueAsked}
 use Rattle.method.specs.Arrays.{arraysOf}
 use Rattle.method.specs.Reads.{multipliers-read, sums-read, totals-read}
@@ -109,7 +110,7 @@ dual-value-requires c κs =
     let g = c .before .before .before .before .before in
     let s = s-g g in
     let fits = dual-value-asked (f s) (f s .steps) (accepted s) (t s) (large s) in
-    transport (λ k. DualValueAsked (problemIn (f s .materials) (f s .limits) 0 (f s .scale) (f s .cost) [] [] [] []) (sym (M-is s) k) (sym (x-reads (at-x g)) k) (sym (g-reads g) k)) fits
+    transport (λ k. DualValueAsked (costsOnly (f s .materials) (f s .limits) (f s .scale) (f s .cost)) (sym (M-is s) k) (sym (x-reads (at-x g)) k) (sym (g-reads g) k)) fits
 
 module _ (c : tie.After-dual-value) where
   abbrev at-g : tie.After-residuals
@@ -122,7 +123,7 @@ module _ (c : tie.After-dual-value) where
   v-fits = search needs
 
   v-is : c .dual-value .result ≡ stepAt (P s-v) (t s-v) .dualValue
-  unfolding costOf
+  unfolding costOf valueFrom
   v-is =
       c .dual-value .ensures
       ∙ (λ k. pos (P s-v .scale) *ℤ costOf (P s-v) (x-reads (at-x at-g) k) +ℤ sumTo (P s-v .limits) (λ i. M-is s-v k i *ℤ g-reads at-g k i))
