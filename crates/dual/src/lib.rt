@@ -216,14 +216,14 @@ pub fn cheapest_value<'a>(
     (scale as i64) * (cheapest as i64)
 }
 
-// The cost of sums of amounts, over up to 4,096 steps.
-pub fn cost_of_sums<'a>(n: usize, cost: &'a [i16; 32], sums: &'a [i32; 32]) -> i64
-    requires { ⌜ SumsAsked (costsOnly n 0 0 (now cost)) (at (now sums)) ⌝ }
-    ensures { λ r. ⌜ r ≡ costOf (costsOnly n 0 0 (now (cost .entry))) (at (now (sums .entry))) ⌝ }
+// The cost of the first `count` sums, which are the amounts of up to 4,096 steps added up.
+pub fn cost_of_sums<'a>(count: usize, cost: &'a [i16; 32], sums: &'a [i32; 32]) -> i64
+    requires { ⌜ SumsAsked (costsOnly count 0 0 (now cost)) (at (now sums)) ⌝ }
+    ensures { λ r. ⌜ r ≡ costOf (costsOnly count 0 0 (now (cost .entry))) (at (now (sums .entry))) ⌝ }
 {
     let mut sum: i64 = 0;
     let mut j: usize = 0;
-    while j < n {
+    while j < count {
         sum = plus_product_64(sum, cost[j] as i32, sums[j]);
         j += 1;
     }

@@ -22,10 +22,10 @@ abbrev product : List ℤ → List ℤ → ℕ → ℤ
 product cost sums j = at cost j *ℤ at sums j
 
 abbrev Inv-loop : tie.InvT-loop
-Inv-loop n cost sums sum₀ j₀ sum j = (j ≤ n) × (toZ w64 sum ≡ sumFrom (pos 0) (product cost sums) j)
+Inv-loop count cost sums sum₀ j₀ sum j = (j ≤ count) × (toZ w64 sum ≡ sumFrom (pos 0) (product cost sums) j)
 
 abbrev μ-loop : tie.MeasureT-loop
-μ-loop n cost sums sum₀ j₀ sum j = n - j
+μ-loop count cost sums sum₀ j₀ sum j = count - j
 
 loop-holds : tie.Need-loop-holds Inv-loop μ-loop
 loop-holds c = (omega arith, simp (sumTo-zero, +ℤ-idr))
@@ -63,7 +63,7 @@ module _ (c : tie.After-plus-product-64-arg2 Inv-loop μ-loop) where
 
 plus-product-64-requires : tie.Need-plus-product-64-requires Inv-loop μ-loop
 plus-product-64-requires c κs =
-    let fits = products-fit (costsOnly (s c .args .n) 0 0 (s c .args .cost .now)) (at (s c .args .sums .now)) (s c .pre) in
+    let fits = products-fit (costsOnly (s c .args .count) 0 0 (s c .args .cost .now)) (at (s c .args .sums .now)) (s c .pre) in
     simp (cost-is c, sum-is c, was c) (fits .one (j c) (omega arith), sum-fits (pos 0) (term c) fits (omega arith))
 
 loop-again : tie.Need-loop-again Inv-loop μ-loop
@@ -76,7 +76,7 @@ loop-again c =
 returns : tie.Need-returns Inv-loop μ-loop
 unfolding costOf
 returns c =
-    let all : c .before .loop .j ≡ c .before .before .args .n = omega arith in
+    let all : c .before .loop .j ≡ c .before .before .args .count = omega arith in
     simp (+ℤ-idl, all) at (c .before .loop .inv .1)
 
 pub cost-of-sums-spec : {M : Type 1} → statement M
