@@ -31,7 +31,7 @@ fn plus_product_64(sum: i64, x: i32, y: i32) -> i64
     sum + (x as i64) * (y as i64)
 }
 
-// The reduced cost of material j. `first` is D times its cost.
+// The reduced cost ("weight") of material j: D·c_j, which is `first`, and Σ_i M_i·a_ij.
 fn reduced_cost<'a>(
     m: usize,
     first: i64,
@@ -51,14 +51,14 @@ fn reduced_cost<'a>(
     sum
 }
 
-// The end of the bounds that a reduced cost chooses: the most amount below 0, else the least.
+// The end of the bounds that a reduced cost chooses: u_j where it is below 0, else l_j.
 fn end_at(reduced: i64, least: i16, most: i16) -> i16
     ensures { λ r. ⌜ r ≡ cond (ltZ reduced (pos 0)) most least ⌝ }
 {
     if reduced < 0 { most } else { least }
 }
 
-// The amounts at given multipliers.
+// The amounts ("step amounts") at given multipliers.
 pub fn amounts<'a>(
     n: usize,
     m: usize,
@@ -83,7 +83,7 @@ pub fn amounts<'a>(
     x
 }
 
-// What limit i bounds by b_i.
+// What limit i bounds by b_i: Σ_j a_ij·x_j.
 fn load<'a>(n: usize, i: usize, coefficient: &'a [i16; 512], amounts: &'a [i16; 32]) -> i32
     requires { ⌜ (n ≤ 32) × ((i < 16) × SumFits w32 (pos 0) (λ j. at (now coefficient) (32 * i + j) *ℤ at (now amounts) j) n) ⌝ }
     ensures { λ r. ⌜ r ≡ sumTo n (λ j. at (now (coefficient .entry)) (32 * i + j) *ℤ at (now (amounts .entry)) j) ⌝ }
@@ -97,7 +97,7 @@ fn load<'a>(n: usize, i: usize, coefficient: &'a [i16; 512], amounts: &'a [i16; 
     total
 }
 
-// The residuals of amounts.
+// The residuals ("misses") of amounts: what limit i bounds, less b_i.
 pub fn residuals<'a>(
     n: usize,
     m: usize,
@@ -117,7 +117,7 @@ pub fn residuals<'a>(
     g
 }
 
-// The cost of amounts.
+// The cost of amounts: Σ_j c_j·x_j.
 fn cost_of<'a>(n: usize, cost: &'a [i16; 32], amounts: &'a [i16; 32]) -> i32
     requires { ⌜ (n ≤ 32) × SumFits w32 (pos 0) (λ j. at (now cost) j *ℤ at (now amounts) j) n ⌝ }
     ensures { λ r. ⌜ r ≡ sumTo n (λ j. at (now (cost .entry)) j *ℤ at (now (amounts .entry)) j) ⌝ }
@@ -131,7 +131,7 @@ fn cost_of<'a>(n: usize, cost: &'a [i16; 32], amounts: &'a [i16; 32]) -> i32
     sum
 }
 
-// `first`, and each multiplier times its residual.
+// `first`, and Σ_i M_i·residual_i.
 fn with_residuals<'a>(
     m: usize,
     first: i64,
@@ -141,16 +141,16 @@ fn with_residuals<'a>(
     requires { ⌜ (m ≤ 16) × SumFits w64 first (λ i. at (now multipliers) i *ℤ at (now residuals) i) m ⌝ }
     ensures { λ r. ⌜ r ≡ first +ℤ sumTo m (λ i. at (now (multipliers .entry)) i *ℤ at (now (residuals .entry)) i) ⌝ }
 {
-    let mut sum = first;
+    let mut value = first;
     let mut i: usize = 0;
     while i < m {
-        sum = plus_product_64(sum, multipliers[i], residuals[i]);
+        value = plus_product_64(value, multipliers[i], residuals[i]);
         i += 1;
     }
-    sum
+    value
 }
 
-// The dual value of multipliers, with the amounts and the residuals that they give.
+// The dual value ("step value") of multipliers, with the amounts and the residuals that they give.
 pub fn dual_value<'a>(
     n: usize,
     m: usize,
@@ -167,14 +167,14 @@ pub fn dual_value<'a>(
     with_residuals(m, scaled_cost, multipliers, residuals)
 }
 
-// The end of the bounds where a material costs most: the most amount at a positive cost, else the least.
-fn dear_end(cost: i16, least: i16, most: i16) -> i16
+// The end of the bounds where a material costs most: u_j where c_j is positive, else l_j.
+fn greatest_end(cost: i16, least: i16, most: i16) -> i16
     ensures { λ r. ⌜ r ≡ cond (ltZ (pos 0) cost) most least ⌝ }
 {
     if 0 < cost { most } else { least }
 }
 
-// D times the greatest cost that the bounds allow.
+// D times the greatest ("dearest") cost that the bounds allow.
 pub fn greatest_value<'a>(
     n: usize,
     scale: usize,
@@ -189,10 +189,17 @@ pub fn greatest_value<'a>(
     let mut j: usize = 0;
     while j < n {
         let c = cost[j];
-        greatest = plus_product_32(greatest, c, dear_end(c, least[j], most[j]));
+        greatest = plus_product_32(greatest, c, greatest_end(c, least[j], most[j]));
         j += 1;
     }
     (scale as i64) * (greatest as i64)
+}
+
+// The end of the bounds where a material costs least: u_j where c_j is negative, else l_j.
+fn cheapest_end(cost: i16, least: i16, most: i16) -> i16
+    ensures { λ r. ⌜ r ≡ cond (ltZ cost (pos 0)) most least ⌝ }
+{
+    if cost < 0 { most } else { least }
 }
 
 // D times the cheapest cost that the bounds allow.
@@ -210,7 +217,7 @@ pub fn cheapest_value<'a>(
     let mut j: usize = 0;
     while j < n {
         let c = cost[j];
-        cheapest = plus_product_32(cheapest, c, end_at(c as i64, least[j], most[j]));
+        cheapest = plus_product_32(cheapest, c, cheapest_end(c, least[j], most[j]));
         j += 1;
     }
     (scale as i64) * (cheapest as i64)

@@ -77,14 +77,14 @@ fn moved<'a>(
     let mut i: usize = 0;
     while i < m {
         let old = multipliers[i] as i64;
-        let moved = larger(0, old + p * (residuals[i] as i64));
-        if 1073741824 < moved {
+        let new = larger(0, old + p * (residuals[i] as i64));
+        if 1073741824 < new {
             return Move {
                 multipliers: *multipliers,
                 diverged: true,
             };
         }
-        next[i] = moved as i32;
+        next[i] = new as i32;
         i += 1;
     }
     Move {
@@ -242,11 +242,11 @@ pub fn run(f: Figures) -> Stepped
 }
 
 // D times the cost of the sums, less k times low. It may be negative.
-fn difference(cost: i64, low: i64) -> i64
-    requires { ⌜ SFits w64 (cost -ℤ low) ⌝ }
-    ensures { λ r. ⌜ r ≡ cost -ℤ low ⌝ }
+fn difference(scaled: i64, counted: i64) -> i64
+    requires { ⌜ SFits w64 (scaled -ℤ counted) ⌝ }
+    ensures { λ r. ⌜ r ≡ scaled -ℤ counted ⌝ }
 {
-    cost - low
+    scaled - counted
 }
 
 // The gap of the state after the last step.

@@ -1,4 +1,4 @@
--- The three demands, of planning a sheet into a lent record buffer: `lent` is the buffer as it was lent, `left` as it is afterwards.
+-- The three demands, of planning a sheet into a lent record buffer: `lent` is the buffer as it was lent, `after` as it is afterwards.
 use mathlib.Core.Path.{_≡_}
 use mathlib.Core.List.{List}
 use Prim.Native.Nat.{ℕ}
@@ -7,10 +7,10 @@ use Rattle.rules.specs.declared.Answer.{Answer}
 use Rattle.rules.specs.Answers.{outcome, answer, bufferAfter}
 use Rattle.rules.specs.Margins.{Margins}
 
-pub record Promise (sheet lent left : List ℕ) (result : Answer) : Type 0 where
+pub record Promise (sheet lent after : List ℕ) (result : Answer) : Type 0 where
   -- demands 1 and 2: the answer is document 01's, a plan in every digit, or the one refusal with its number and place
   pub answered : outcome result ≡ answer sheet (length lent)
   -- demands 1 and 2: the buffer holds the record and then the rest as lent; after a refusal every byte is as lent
-  pub buffer : left ≡ bufferAfter sheet lent
-  -- demand 3: the plan has its margins, and after "no blend" there is no recipe
+  pub buffer : after ≡ bufferAfter sheet lent
+  -- demand 3: the plan has its margins, and after "no blend" there is no lawful recipe
   pub margins : Margins sheet (outcome result)

@@ -8,9 +8,8 @@ use mir.Syntax.{w16, w32, w64}
 use mir.Val.{SFits, toZ, ofZ}
 use mir.Facts.{toZ-ofZ}
 use borrow.Author.Needs.{needs}
-use Rattle.integer.specs.Range.{wider, small-fits, small-is}
+use Rattle.integer.specs.Range.{small-fits, small-is}
 use Rattle.integer.specs.Sum.{sumTo-zero}
-use Rattle.integer.specs.Vector.{at}
 use Rattle.rules.specs.Problem.{Problem, costOf}
 use Rattle.margins.specs.CostRange.{cheapestEnd, cheapestCost}
 use Rattle.dual.specs.Given.{materialsOnly}
@@ -31,7 +30,7 @@ loop-holds : tie.Need-loop-holds Inv-loop μ-loop
 loop-holds c = (omega arith, simp (sumTo-zero, +ℤ-idr))
 
 -- in a turn, with the end chosen
-module _ (c : tie.After-end-at Inv-loop μ-loop) where
+module _ (c : tie.After-cheapest-end Inv-loop μ-loop) where
   abbrev loop : tie.At-loop Inv-loop μ-loop
   loop = c .before .before .before .before .before
 
@@ -47,20 +46,15 @@ module _ (c : tie.After-end-at Inv-loop μ-loop) where
   c-fits : SFits w16 (P .cost j)
   c-fits = search needs
 
-  end-is : toZ w16 (ofZ w16 (c .end-at .result)) ≡ cheapestEnd P j
+  end-is : toZ w16 (ofZ w16 (c .cheapest-end .result)) ≡ cheapestEnd P j
   end-is =
       let least-fits : SFits w16 (P .least j) = search needs in
       let most-fits : SFits w16 (P .most j) = search needs in
-      let end-fits : SFits w16 (c .end-at .result) = search needs in
-      toZ-ofZ end-fits ∙ (simp (toZ-ofZ c-fits, toZ-ofZ (wider {v = w16} {w = w64} tt c-fits), toZ-ofZ least-fits, toZ-ofZ most-fits) at (c .end-at .ensures))
+      let end-fits : SFits w16 (c .cheapest-end .result) = search needs in
+      toZ-ofZ end-fits ∙ (simp (toZ-ofZ c-fits, toZ-ofZ least-fits, toZ-ofZ most-fits) at (c .cheapest-end .ensures))
 
   was : toZ w32 (loop .loop .cheapest) ≡ sumFrom (pos 0) (costAt P) j
   was = loop .loop .inv .1
-
-cast-end-at : tie.Need-cast-end-at Inv-loop μ-loop
-cast-end-at c =
-    let fits : SFits w16 (at (c .before .before .before .args .cost .now) (c .before .before .loop .j)) = search needs in
-    simp (toZ-ofZ fits) (wider {v = w16} {w = w64} tt fits)
 
 plus-product-32-requires : tie.Need-plus-product-32-requires Inv-loop μ-loop
 plus-product-32-requires c κs =
@@ -121,7 +115,6 @@ cheapest-value-spec =
     loop-holds
     (search needs)
     (search needs)
-    cast-end-at
     (search needs)
     (search needs)
     (search needs)

@@ -31,7 +31,7 @@ loop-holds : tie.Need-loop-holds Inv-loop μ-loop
 loop-holds c = (omega arith, simp (sumTo-zero, +ℤ-idr))
 
 -- in a turn, with the end chosen
-module _ (c : tie.After-dear-end Inv-loop μ-loop) where
+module _ (c : tie.After-greatest-end Inv-loop μ-loop) where
   abbrev loop : tie.At-loop Inv-loop μ-loop
   loop = c .before .before .before .before .before
 
@@ -47,12 +47,12 @@ module _ (c : tie.After-dear-end Inv-loop μ-loop) where
   c-fits : SFits w16 (P .cost j)
   c-fits = search needs
 
-  end-is : toZ w16 (ofZ w16 (c .dear-end .result)) ≡ greatestEnd P j
+  end-is : toZ w16 (ofZ w16 (c .greatest-end .result)) ≡ greatestEnd P j
   end-is =
       let least-fits : SFits w16 (P .least j) = search needs in
       let most-fits : SFits w16 (P .most j) = search needs in
-      let end-fits : SFits w16 (c .dear-end .result) = search needs in
-      toZ-ofZ end-fits ∙ (simp (toZ-ofZ c-fits, toZ-ofZ least-fits, toZ-ofZ most-fits) at (c .dear-end .ensures))
+      let end-fits : SFits w16 (c .greatest-end .result) = search needs in
+      toZ-ofZ end-fits ∙ (simp (toZ-ofZ c-fits, toZ-ofZ least-fits, toZ-ofZ most-fits) at (c .greatest-end .ensures))
 
   was : toZ w32 (loop .loop .greatest) ≡ sumFrom (pos 0) (costAt P) j
   was = loop .loop .inv .1

@@ -18,10 +18,10 @@ abbrev product : List ℤ → List ℤ → ℕ → ℤ
 product multipliers residuals i = at multipliers i *ℤ at residuals i
 
 abbrev Inv-loop : tie.InvT-loop
-Inv-loop m first multipliers residuals sum₀ i₀ sum i = (i ≤ m) × (toZ w64 sum ≡ sumFrom (toZ w64 first) (product multipliers residuals) i)
+Inv-loop m first multipliers residuals value₀ i₀ value i = (i ≤ m) × (toZ w64 value ≡ sumFrom (toZ w64 first) (product multipliers residuals) i)
 
 abbrev μ-loop : tie.MeasureT-loop
-μ-loop m first multipliers residuals sum₀ i₀ sum i = m - i
+μ-loop m first multipliers residuals value₀ i₀ value i = m - i
 
 loop-holds : tie.Need-loop-holds Inv-loop μ-loop
 loop-holds c = (omega arith, simp (sumTo-zero, +ℤ-idr))
@@ -43,7 +43,7 @@ module _ (c : tie.After-plus-product-64-arg2 Inv-loop μ-loop) where
   residual-fits : SFits w32 (at (s .args .residuals .now) i)
   residual-fits = search needs
 
-  was : toZ w64 (c .before .before .before .loop .sum) ≡ sumFrom (s .args .first) term i
+  was : toZ w64 (c .before .before .before .loop .value) ≡ sumFrom (s .args .first) term i
   was = simp (toZ-ofZ (s .fits .first)) at (c .before .before .before .loop .inv .1)
 
 plus-product-64-requires : tie.Need-plus-product-64-requires Inv-loop μ-loop

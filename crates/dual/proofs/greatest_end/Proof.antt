@@ -4,8 +4,8 @@ use mathlib.Core.Bool.{true, false}
 use lib.IntN.{pos}
 use lib.Signed.{ltZ}
 use mir.Facts.{toZ-ofZ}
-use Rattle.dual.proofs.dear_end.Statement.{statement}
-use Rattle.dual.proofs.dear_end.Tie as tie
+use Rattle.dual.proofs.greatest_end.Statement.{statement}
+use Rattle.dual.proofs.greatest_end.Tie as tie
 
 returns : tie.Need-returns
 returns c =
@@ -19,5 +19,5 @@ returns-2 c =
     let test : ltZ (pos 0) (s .args .cost) ≡ false = simp (toZ-ofZ (s .fits .cost)) at (c .if1 .left) in
     simp (toZ-ofZ (s .fits .least), test)
 
-pub dear-end-spec : {M : Type 1} → statement M
-dear-end-spec = tie.close (tie.spec returns returns-2)
+pub greatest-end-spec : {M : Type 1} → statement M
+greatest-end-spec = tie.close (tie.spec returns returns-2)
