@@ -2,13 +2,10 @@
 use mathlib.Core.Path.{_≡_, sym, ap, _∙_}
 use Prim.Native.Nat.{ℕ, suc, _+_, _<_}
 use native.Mathlib.Numerals.{add-one}
-use lib.IntN.{ℤ, pos, _+ℤ_, _*ℤ_, +ℤ-assoc, +ℤ-idl}
-use mir.Syntax.{Width, w32}
+use lib.IntN.{ℤ, _+ℤ_, +ℤ-assoc}
+use mir.Syntax.{Width}
 use mir.Val.{SFits}
-use Rattle.integer.specs.Range.{bnd-sfits}
 use Rattle.integer.specs.Sum.{sumTo, sumTo-suc}
-use Rattle.rules.specs.Problem.{Problem}
-use Rattle.margins.specs.Magnitudes.{CostMagnitudes}
 use Rattle.dual.specs.Asked.{SumFits}
 
 module _ (first : ℤ) (term : ℕ → ℤ) where
@@ -20,10 +17,3 @@ module _ (first : ℤ) (term : ℕ → ℤ) where
 
   pub sum-fits : {w : Width} {i count : ℕ} → SumFits w first term count → i < count → SFits w (sumFrom i +ℤ term i)
   sum-fits {w} {i} fits l = rw (sum-next i, add-one) (fits .part (suc i) l)
-
--- the cost of amounts of at most 1,000 fits 32 bits, term by term
-pub cost-fits : (P : Problem) (x : ℕ → ℤ) → CostMagnitudes P x 1000 → SumFits w32 (pos 0) (λ j. P .cost j *ℤ x j) (P .materials)
-cost-fits P x cost = record {
-  one = λ j l. bnd-sfits tt (cost .term j l .bound);
-  part = λ n l. rw +ℤ-idl (bnd-sfits tt (cost .sum n l .bound));
-}

@@ -13,7 +13,7 @@ ghost use Rattle.rules.specs.Step.{amount, residual, greatestCost};
 ghost use Rattle.margins.specs.CostRange.{cheapestEnd, greatestEnd, cheapestCost};
 ghost use Rattle.figures.specs.Padded.{padded};
 ghost use Rattle.dual.specs.Given.{withoutBounds, limitsOnly, materialsOnly, costsOnly, valueFrom};
-ghost use Rattle.dual.specs.Asked.{SumFits, AmountsAsked, ResidualsAsked, DualValueAsked, EndsAsked, SumsAsked};
+ghost use Rattle.dual.specs.Asked.{SumFits, AmountsAsked, ResidualsAsked, CostFits, DualValueAsked, SumsAsked};
 
 // sum + x·y, in 32 bits.
 fn plus_product_32(sum: i32, x: i16, y: i16) -> i32
@@ -182,7 +182,7 @@ pub fn greatest_value<'a>(
     least: &'a [i16; 32],
     most: &'a [i16; 32],
 ) -> i64
-    requires { ⌜ EndsAsked (materialsOnly n scale (now cost) (now least) (now most)) (greatestEnd (materialsOnly n scale (now cost) (now least) (now most))) ⌝ }
+    requires { ⌜ CostFits (materialsOnly n scale (now cost) (now least) (now most)) (greatestEnd (materialsOnly n scale (now cost) (now least) (now most))) ⌝ }
     ensures { λ r. ⌜ r ≡ pos scale *ℤ greatestCost (materialsOnly n scale (now (cost .entry)) (now (least .entry)) (now (most .entry))) ⌝ }
 {
     let mut greatest: i32 = 0;
@@ -210,7 +210,7 @@ pub fn cheapest_value<'a>(
     least: &'a [i16; 32],
     most: &'a [i16; 32],
 ) -> i64
-    requires { ⌜ EndsAsked (materialsOnly n scale (now cost) (now least) (now most)) (cheapestEnd (materialsOnly n scale (now cost) (now least) (now most))) ⌝ }
+    requires { ⌜ CostFits (materialsOnly n scale (now cost) (now least) (now most)) (cheapestEnd (materialsOnly n scale (now cost) (now least) (now most))) ⌝ }
     ensures { λ r. ⌜ r ≡ pos scale *ℤ cheapestCost (materialsOnly n scale (now (cost .entry)) (now (least .entry)) (now (most .entry))) ⌝ }
 {
     let mut cheapest: i32 = 0;

@@ -11,11 +11,11 @@ use Rattle.rules.specs.Bytes.{unsignedBytes, signedBytes}
 pub record Room (w : ℕ) (d : List ℕ) : Type 0 where
   pub room : w ≤ length d
 
--- A signed number asks for room, and is from −256^w to 256^w − 1; `mag v` is n for n and for −(n + 1).
+-- A signed number asks for room, and that it is one of w bytes in two's complement; `mag v` is n for n and for −(n + 1).
 pub record SignedRoom (w : ℕ) (v : ℤ) (d : List ℕ) : Type 0 where
   pub room : w ≤ length d
   pub narrow : w ≤ 8
-  pub small : mag v < 256 ^ w
+  pub small : mag v < 256 ^ w / 2
 
 -- a signed number as 64 bits in two's complement
 unfoldable pub bits64 : ℤ → ℕ

@@ -1,11 +1,11 @@
 -- What the functions of a step ask follows from the magnitudes of the run.
 use mathlib.Core.Path.{_≡_, sym, ap, subst}
-use mathlib.Core.List.{List, []}
-use Prim.Native.Nat.{ℕ, _≤_, zero-le}
+use Prim.Native.Nat.{ℕ, _≤_}
 use native.Mathlib.Nat.{lt-of-lt-of-le}
 use lib.Dec.{lit≤}
-use lib.IntN.{ℤ, pos, _+ℤ_, _*ℤ_}
+use lib.IntN.{ℤ, pos, _+ℤ_, _*ℤ_, +ℤ-idl}
 use mir.Syntax.{w32, w64}
+use mir.Val.{SFits}
 use Rattle.integer.specs.Range.{bnd-sfits}
 use Rattle.integer.specs.Sum.{sumTo, sumTo-cong}
 use Rattle.integer.specs.Vector.{at}
@@ -14,55 +14,63 @@ use Rattle.rules.specs.Step.{residual}
 use Rattle.rules.specs.Run.{stateAfter}
 use Rattle.margins.specs.Accepted.{Accepted}
 use Rattle.margins.specs.CostRange.{greatestEnd, cheapestEnd, cheapest-minimal, greatest-minimal}
-use Rattle.margins.specs.Magnitudes.{Fits64, CostMagnitudes, amounts-bnd, cost-magnitudes}
+use Rattle.margins.specs.Magnitudes.{CostMagnitudes, amounts-bnd, cost-magnitudes}
 use Rattle.margins.specs.RunSteps.{entering, amounts, residuals, residuals-are}
 use Rattle.margins.specs.RunMagnitudes.{RunMagnitudes}
 use Rattle.figures.specs.declared.Figures.{Figures}
-use Rattle.figures.specs.Figures.{problemIn, problemOf}
+use Rattle.figures.specs.Figures.{problemOf}
 use Rattle.dual.specs.Given.{withoutBounds, limitsOnly, materialsOnly, costsOnly}
-use Rattle.dual.specs.Asked.{AmountsAsked, ResidualsAsked, DualValueAsked, EndsAsked, SumsAsked}
+use Rattle.dual.specs.Asked.{SumFits, AmountsAsked, ResidualsAsked, CostFits, DualValueAsked, SumsAsked}
 use Rattle.method.specs.Asked.{MoveAsked, TotalsFit}
-
--- the cost of amounts asks for n, D and the costs alone
-same-costs : (n m p D : ℕ) (c l u a b : List ℤ) (m′ : ℕ) (l′ u′ : List ℤ) {x : ℕ → ℤ} {B : ℕ}
-    → CostMagnitudes (problemIn n m p D c l u a b) x B → CostMagnitudes (problemIn n m′ 0 D c l′ u′ [] []) x B
-unfolding costOf
-same-costs n m p D c l u a b m′ l′ u′ h = record { term = h .term; sum = h .sum; scaled = h .scaled }
 
 module _ (f : Figures) (k : ℕ) (accepted : Accepted (problemOf f) k) where
   abbrev P : Problem
   P = problemOf f
 
-  -- ---- before the steps
-  ends-asked : (x : ℕ → ℤ) → CostMagnitudes P x 1000 → EndsAsked (materialsOnly (f .materials) (f .scale) (f .cost) (f .least) (f .most)) x
-  ends-asked x costs = record {
-    sized = record { narrow = accepted .materials-few; few = zero-le; scale = accepted .scale-small };
-    cost = same-costs (f .materials) (f .limits) (f .numerator) (f .scale) (f .cost) (f .least) (f .most) (f .coefficient) (f .bound) 0 (f .least) (f .most) costs;
+  -- ---- the cost of amounts of at most 1,000
+  cost-sum : (x : ℕ → ℤ) → CostMagnitudes P x 1000 → SumFits w32 (pos 0) (λ j. P .cost j *ℤ x j) (P .materials)
+  cost-sum x costs = record {
+    one = λ j l. bnd-sfits tt (costs .term j l .bound);
+    part = λ n l. rw +ℤ-idl (bnd-sfits tt (costs .sum n l .bound));
   }
 
-  pub greatest-asked : EndsAsked (materialsOnly (f .materials) (f .scale) (f .cost) (f .least) (f .most)) (greatestEnd P)
-  greatest-asked = ends-asked (greatestEnd P) (cost-magnitudes accepted (greatestEnd P) (lit≤ tt) (amounts-bnd accepted (greatest-minimal P)))
+  cost-fits : (x : ℕ → ℤ) → CostMagnitudes P x 1000 → CostFits P x
+  cost-fits x costs = record { narrow = accepted .materials-few; scale = accepted .scale-small; sum = cost-sum x costs; scaled = costs .scaled .fits }
 
-  pub cheapest-asked : EndsAsked (materialsOnly (f .materials) (f .scale) (f .cost) (f .least) (f .most)) (cheapestEnd P)
-  cheapest-asked = ends-asked (cheapestEnd P) (cost-magnitudes accepted (cheapestEnd P) (lit≤ tt) (amounts-bnd accepted (cheapest-minimal P)))
+  -- ---- before the steps
+  pub greatest-fits : CostFits (materialsOnly (f .materials) (f .scale) (f .cost) (f .least) (f .most)) (greatestEnd P)
+  unfolding costOf
+  greatest-fits =
+      let fits = cost-fits (greatestEnd P) (cost-magnitudes accepted (greatestEnd P) (lit≤ tt) (amounts-bnd accepted (greatest-minimal P))) in
+      record { narrow = fits .narrow; scale = fits .scale; sum = fits .sum; scaled = fits .scaled }
+
+  pub cheapest-fits : CostFits (materialsOnly (f .materials) (f .scale) (f .cost) (f .least) (f .most)) (cheapestEnd P)
+  unfolding costOf
+  cheapest-fits =
+      let fits = cost-fits (cheapestEnd P) (cost-magnitudes accepted (cheapestEnd P) (lit≤ tt) (amounts-bnd accepted (cheapest-minimal P))) in
+      record { narrow = fits .narrow; scale = fits .scale; sum = fits .sum; scaled = fits .scaled }
 
   -- ---- at step t
   module _ (t : ℕ) (large : RunMagnitudes P t) where
     pub amounts-asked : AmountsAsked (withoutBounds (f .materials) (f .limits) (f .scale) (f .cost) (f .least) (f .most) (f .coefficient)) (entering P t)
     amounts-asked = record {
-      sized = record { narrow = accepted .materials-few; few = accepted .limits-few; scale = accepted .scale-small };
-      scaled-cost = large .step .scaled-cost;
-      term = large .step .reduced-term;
-      part = large .step .reduced-part;
+      narrow = accepted .materials-few;
+      few = accepted .limits-few;
+      scale = accepted .scale-small;
+      scaled-cost = λ j l. large .step .scaled-cost j l .fits;
+      reduced = λ j l. record { one = λ i h. large .step .reduced-term i j h l .fits; part = λ i h. large .step .reduced-part i j h l .fits };
     }
 
     pub residuals-asked : ResidualsAsked (limitsOnly (f .materials) (f .limits) (f .coefficient) (f .bound)) (amounts P t)
     unfolding residual loadOf
     residuals-asked = record {
-      sized = record { narrow = accepted .materials-few; few = accepted .limits-few; scale = zero-le };
-      term = large .step .load-term;
-      part = large .step .load-sum;
-      whole = large .step .one-residual;
+      narrow = accepted .materials-few;
+      few = accepted .limits-few;
+      load = λ i l. record {
+        one = λ j h. bnd-sfits tt (large .step .load-term i j l h .bound);
+        part = λ n h. rw +ℤ-idl (bnd-sfits tt (large .step .load-sum i n l h .bound));
+      };
+      whole = λ i l. bnd-sfits tt (large .step .one-residual i l .bound);
     }
 
     -- a sum over the residuals as the step has them
@@ -72,12 +80,16 @@ module _ (f : Figures) (k : ℕ) (accepted : Accepted (problemOf f) k) where
 
     pub dual-value-asked : DualValueAsked (costsOnly (f .materials) (f .limits) (f .scale) (f .cost)) (entering P t) (amounts P t) (residuals P t)
     unfolding costOf
-    dual-value-asked = record {
-      sized = record { narrow = accepted .materials-few; few = accepted .limits-few; scale = accepted .scale-small };
-      cost = same-costs (f .materials) (f .limits) (f .numerator) (f .scale) (f .cost) (f .least) (f .most) (f .coefficient) (f .bound) (f .limits) [] [] (large .step .step-cost);
-      term = λ i l. rw (residuals-are P t i l) (large .step .dual-term i l);
-      part = λ m l. subst (λ z. Fits64 (pos (P .scale) *ℤ costOf P (amounts P t) +ℤ z) 1099511955456000000) (by-residuals m l) (large .step .dual-part m l);
-    }
+    dual-value-asked =
+        let fits = cost-fits (amounts P t) (large .step .step-cost) in
+        record {
+          few = accepted .limits-few;
+          cost = record { narrow = fits .narrow; scale = fits .scale; sum = fits .sum; scaled = fits .scaled };
+          value = record {
+            one = λ i l. rw (residuals-are P t i l) (large .step .dual-term i l .fits);
+            part = λ m l. subst (λ z. SFits w64 (pos (P .scale) *ℤ costOf P (amounts P t) +ℤ z)) (by-residuals m l) (large .step .dual-part m l .fits);
+          };
+        }
 
     pub move-asked : MoveAsked (f .limits) (f .numerator) (entering P t) (residuals P t)
     move-asked = record {
@@ -95,4 +107,7 @@ module _ (f : Figures) (k : ℕ) (accepted : Accepted (problemOf f) k) where
 
     -- ---- after the last step
     pub sums-asked : SumsAsked (costsOnly (f .materials) 0 0 (f .cost)) (at (stateAfter P t .sums))
-    sums-asked = record { narrow = accepted .materials-few; term = large .state .sums-cost .term; part = large .state .sums-cost .sum }
+    sums-asked = record {
+      narrow = accepted .materials-few;
+      sum = record { one = λ j l. large .state .sums-cost .term j l .fits; part = λ n l. rw +ℤ-idl (large .state .sums-cost .sum n l .fits) };
+    }

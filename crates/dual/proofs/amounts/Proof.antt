@@ -28,7 +28,7 @@ abbrev μ-loop : tie.MeasureT-loop
 μ-loop n m scale cost least most coefficient multipliers d x₀ j₀ x j = n - j
 
 cast-d : tie.Need-cast-d Inv-loop μ-loop
-cast-d c = small-fits {N = 1024} tt (c .pre .sized .scale)
+cast-d c = small-fits {N = 1024} tt (c .pre .scale)
 
 loop-holds : tie.Need-loop-holds Inv-loop μ-loop
 loop-holds c = (omega arith, sym (fill-start 32 _))
@@ -51,7 +51,7 @@ module _ (c : tie.After-reduced-cost-arg Inv-loop μ-loop) where
   here = omega arith
 
   narrow : j < 32
-  narrow = lt-of-lt-of-le here (s .pre .sized .narrow)
+  narrow = lt-of-lt-of-le here (s .pre .narrow)
 
   cost-fits : SFits w16 (P .cost j)
   cost-fits = search needs
@@ -60,13 +60,13 @@ module _ (c : tie.After-reduced-cost-arg Inv-loop μ-loop) where
   cost-wide = wider {v = w16} tt cost-fits
 
   scale-is : toZ w64 (s .args .scale) ≡ pos (s .args .scale)
-  scale-is = small-is w64 {N = 1024} tt (s .pre .sized .scale)
+  scale-is = small-is w64 {N = 1024} tt (s .pre .scale)
 
   scaled-fits : SFits w64 (pos (s .args .scale) *ℤ P .cost j)
-  scaled-fits = s .pre .scaled-cost j here .fits
+  scaled-fits = s .pre .scaled-cost j here
 
   sum-fits : SumFits w64 (pos (s .args .scale) *ℤ P .cost j) (λ i. M i *ℤ P .coefficient i j) (s .args .m)
-  sum-fits = record { one = λ i l. s .pre .term i j l here .fits; part = λ i l. s .pre .part i j l here .fits }
+  sum-fits = s .pre .reduced j here
 
 cast-reduced-cost : tie.Need-cast-reduced-cost Inv-loop μ-loop
 cast-reduced-cost c = simp (toZ-ofZ (cost-fits c)) (cost-wide c)
@@ -76,7 +76,7 @@ mul-reduced-cost-2 c = simp (toZ-ofZ (cost-fits c), toZ-ofZ (cost-wide c), scale
 
 reduced-cost-requires : tie.Need-reduced-cost-requires Inv-loop μ-loop
 reduced-cost-requires c κs =
-    simp (toZ-ofZ (cost-fits c), toZ-ofZ (cost-wide c), scale-is c, toZ-ofZ (scaled-fits c)) (s c .pre .sized .few, (narrow c, sum-fits c))
+    simp (toZ-ofZ (cost-fits c), toZ-ofZ (cost-wide c), scale-is c, toZ-ofZ (scaled-fits c)) (s c .pre .few, (narrow c, sum-fits c))
 
 -- with the reduced cost and the two ends
 module _ (c : tie.After-end-at Inv-loop μ-loop) where

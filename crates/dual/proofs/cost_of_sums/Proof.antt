@@ -11,9 +11,7 @@ use borrow.Author.Needs.{needs}
 use Rattle.integer.specs.Range.{wider}
 use Rattle.integer.specs.Sum.{sumTo-zero}
 use Rattle.integer.specs.Vector.{at}
-use Rattle.rules.specs.Problem.{Problem, costOf}
-use Rattle.dual.specs.Given.{costsOnly}
-use Rattle.dual.specs.Asked.{SumFits, SumsAsked}
+use Rattle.rules.specs.Problem.{costOf}
 use Rattle.dual.proofs.Sums.{sumFrom, sum-next, sum-fits}
 use Rattle.dual.proofs.cost_of_sums.Statement.{statement}
 use Rattle.dual.proofs.cost_of_sums.Tie as tie
@@ -29,9 +27,6 @@ abbrev μ-loop : tie.MeasureT-loop
 
 loop-holds : tie.Need-loop-holds Inv-loop μ-loop
 loop-holds c = (omega arith, simp (sumTo-zero, +ℤ-idr))
-
-products-fit : (P : Problem) (s : ℕ → ℤ) → SumsAsked P s → SumFits w64 (pos 0) (λ j. P .cost j *ℤ s j) (P .materials)
-products-fit P s asked = record { one = λ j l. asked .term j l .fits; part = λ j l. rw +ℤ-idl (asked .part j l .fits) }
 
 cast-plus-product-64 : tie.Need-cast-plus-product-64 Inv-loop μ-loop
 cast-plus-product-64 c =
@@ -63,7 +58,7 @@ module _ (c : tie.After-plus-product-64-arg2 Inv-loop μ-loop) where
 
 plus-product-64-requires : tie.Need-plus-product-64-requires Inv-loop μ-loop
 plus-product-64-requires c κs =
-    let fits = products-fit (costsOnly (s c .args .count) 0 0 (s c .args .cost .now)) (at (s c .args .sums .now)) (s c .pre) in
+    let fits = s c .pre .sum in
     simp (cost-is c, sum-is c, was c) (fits .one (j c) (omega arith), sum-fits (pos 0) (term c) fits (omega arith))
 
 loop-again : tie.Need-loop-again Inv-loop μ-loop

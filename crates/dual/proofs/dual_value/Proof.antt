@@ -10,7 +10,6 @@ use Rattle.integer.specs.Range.{wider, small-fits, small-is}
 use Rattle.integer.specs.Vector.{at}
 use Rattle.rules.specs.Problem.{Problem, costOf}
 use Rattle.dual.specs.Given.{costsOnly, valueFrom}
-use Rattle.dual.proofs.Sums.{cost-fits}
 use Rattle.dual.proofs.dual_value.Statement.{statement}
 use Rattle.dual.proofs.dual_value.Tie as tie
 
@@ -25,13 +24,13 @@ module _ (s : tie.Start) where
   x = at (s .args .amounts .now)
 
   scale-is : toZ w64 (s .args .scale) ≡ pos (s .args .scale)
-  scale-is = small-is w64 {N = 1024} tt (s .pre .sized .scale)
+  scale-is = small-is w64 {N = 1024} tt (s .pre .cost .scale)
 
 cast-scaled-cost : tie.Need-cast-scaled-cost
-cast-scaled-cost c = small-fits {N = 1024} tt (c .pre .sized .scale)
+cast-scaled-cost c = small-fits {N = 1024} tt (c .pre .cost .scale)
 
 cost-of-requires : tie.Need-cost-of-requires
-cost-of-requires c κs = (c .pre .sized .narrow, cost-fits (P c) (x c) (c .pre .cost))
+cost-of-requires c κs = (c .pre .cost .narrow, c .pre .cost .sum)
 
 -- with the cost of the amounts
 module _ (c : tie.After-cost-of) where
@@ -52,7 +51,7 @@ module _ (c : tie.After-cost-of) where
   scaled-is = λ k. pos (s .args .scale) *ℤ cost-is k
 
   scaled-fits : SFits w64 (pos (s .args .scale) *ℤ costOf (P s) (x s))
-  scaled-fits = s .pre .cost .scaled .fits
+  scaled-fits = s .pre .cost .scaled
 
 cast-scaled-cost-2 : tie.Need-cast-scaled-cost-2
 cast-scaled-cost-2 c = simp (toZ-ofZ (narrow-cost c)) (wide-cost c)
@@ -64,7 +63,7 @@ with-residuals-requires : tie.Need-with-residuals-requires
 with-residuals-requires c κs =
     let asked = s c .pre in
     simp (toZ-ofZ (narrow-cost c), toZ-ofZ (wide-cost c), scale-is (s c), scaled-is c, toZ-ofZ (scaled-fits c))
-    (asked .sized .few, record { one = λ i l. asked .term i l .fits; part = λ i l. asked .part i l .fits })
+    (asked .few, asked .value)
 
 returns : tie.Need-returns
 unfolding valueFrom

@@ -8,13 +8,13 @@ use mir.Syntax.{w16, w32, w64}
 use mir.Val.{SFits, toZ, ofZ}
 use mir.Facts.{toZ-ofZ}
 use borrow.Author.Needs.{needs}
-use Rattle.integer.specs.Range.{small-fits, small-is}
+use Rattle.integer.specs.Range.{wider, small-fits, small-is}
 use Rattle.integer.specs.Sum.{sumTo-zero}
 use Rattle.rules.specs.Problem.{Problem, costOf}
 use Rattle.rules.specs.Step.{greatestCost}
 use Rattle.margins.specs.CostRange.{greatestEnd}
 use Rattle.dual.specs.Given.{materialsOnly}
-use Rattle.dual.proofs.Sums.{sumFrom, sum-next, sum-fits, cost-fits}
+use Rattle.dual.proofs.Sums.{sumFrom, sum-next, sum-fits}
 use Rattle.dual.proofs.greatest_value.Statement.{statement}
 use Rattle.dual.proofs.greatest_value.Tie as tie
 
@@ -59,7 +59,7 @@ module _ (c : tie.After-greatest-end Inv-loop μ-loop) where
 
 plus-product-32-requires : tie.Need-plus-product-32-requires Inv-loop μ-loop
 plus-product-32-requires c κs =
-    let fits = cost-fits (P c) (greatestEnd (P c)) (s c .pre .cost) in
+    let fits = s c .pre .sum in
     simp (toZ-ofZ (c-fits c), end-is c, was c)
     (fits .one (j c) (omega arith), sum-fits (pos 0) (costAt (P c)) fits (omega arith))
 
@@ -79,7 +79,7 @@ module _ (c : tie.After-loop Inv-loop μ-loop) where
   Q = materialsOnly (start .args .n) (start .args .scale) (start .args .cost .now) (start .args .least .now) (start .args .most .now)
 
   scale-is : toZ w64 (start .args .scale) ≡ pos (start .args .scale)
-  scale-is = small-is w64 {N = 1024} tt (start .pre .sized .scale)
+  scale-is = small-is w64 {N = 1024} tt (start .pre .scale)
 
   sum-is : toZ w32 (c .before .loop .greatest) ≡ greatestCost Q
   unfolding greatestCost costOf
@@ -89,14 +89,14 @@ module _ (c : tie.After-loop Inv-loop μ-loop) where
 
   cost-wide : SFits w64 (greatestCost Q)
   unfolding greatestCost costOf
-  cost-wide = start .pre .cost .sum (start .args .n) (le-refl _) .fits
+  cost-wide = wider {v = w32} tt (rw +ℤ-idl at (start .pre .sum .part (start .args .n) (le-refl _)))
 
   scaled-fits : SFits w64 (pos (start .args .scale) *ℤ greatestCost Q)
   unfolding greatestCost
-  scaled-fits = start .pre .cost .scaled .fits
+  scaled-fits = start .pre .scaled
 
 cast-result : tie.Need-cast-result Inv-loop μ-loop
-cast-result c = small-fits {N = 1024} tt (start c .pre .sized .scale)
+cast-result c = small-fits {N = 1024} tt (start c .pre .scale)
 
 cast-result-2 : tie.Need-cast-result-2 Inv-loop μ-loop
 cast-result-2 c = rw (sum-is c) (cost-wide c)

@@ -43,7 +43,7 @@ returns c =
     let call = c .before .before in
     let start = call .before .before .before .before in
     let v : call .before .bits .result ≡ bits64 (start .args .v) = simp (toZ-ofZ (start .fits .v)) at (call .before .bits .ensures) in
-    let b = bytes (start .args .width) (start .args .v) (start .pre .narrow) (start .pre .small) in
+    let b = bytes (start .args .width) (start .args .v) (start .pre .narrow) (omega (arith, start .pre .small)) in
     call .put-unsigned .ensures ∙ ap (λ (s : List ℕ). written s (start .args .d .now)) (ap (unsignedBytes (start .args .width)) v ∙ b)
 
 pub put-signed-spec : {M : Type 1} → statement M

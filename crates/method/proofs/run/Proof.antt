@@ -12,7 +12,7 @@ use Rattle.rules.specs.Answers.{stepRefusal}
 use Rattle.laws.specs.FirstPlace.{first-start}
 use Rattle.figures.specs.Figures.{problemOf}
 use Rattle.method.specs.Asked.{Reached}
-use Rattle.method.proofs.Magnitudes.{greatest-asked}
+use Rattle.method.proofs.Magnitudes.{greatest-fits}
 use Rattle.method.proofs.Stops.{hands-on, still-going, next-state, hands-state}
 use Rattle.method.proofs.run.Statement.{statement}
 use Rattle.method.proofs.run.Tie as tie
@@ -26,7 +26,7 @@ abbrev μ-loop : tie.MeasureT-loop
 greatest-value-requires : tie.Need-greatest-value-requires Inv-loop μ-loop
 greatest-value-requires c κs =
     let s = c .before .before .before .before in
-    greatest-asked (s .args .t1) (s .args .t1 .steps) (s .pre)
+    greatest-fits (s .args .t1) (s .args .t1 .steps) (s .pre)
 
 start-requires : tie.Need-start-requires Inv-loop μ-loop
 start-requires c κs = c .before .before .before .before .before .pre

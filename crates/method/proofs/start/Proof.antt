@@ -11,14 +11,14 @@ use Rattle.margins.specs.Opening.{opening-low}
 use Rattle.figures.specs.Padded.{padded-zero}
 use Rattle.figures.specs.Figures.{problemOf}
 use Rattle.method.specs.Arrays.{arraysOf}
-use Rattle.method.proofs.Magnitudes.{cheapest-asked}
+use Rattle.method.proofs.Magnitudes.{cheapest-fits}
 use Rattle.method.proofs.start.Statement.{statement}
 use Rattle.method.proofs.start.Tie as tie
 
 cheapest-value-requires : tie.Need-cheapest-value-requires
 cheapest-value-requires c κs =
     let s = c .before .before .before .before in
-    cheapest-asked (s .args .t1) (s .args .t1 .steps) (s .pre)
+    cheapest-fits (s .args .t1) (s .args .t1 .steps) (s .pre)
 
 returns : tie.Need-returns
 unfolding arraysOf stateAfter start startingMultiplier cheapestCost costOf
