@@ -11,7 +11,7 @@ use Rattle.rules.specs.Problem.{Problem, costOf, loadOf}
 use Rattle.rules.specs.Step.{State, anyBelow, reducedCost, amount, residual, dualValue, greatestCost, moved, stepFrom, infeasible, diverged, next}
 use Rattle.rules.specs.Run.{startingMultiplier, start, stateAfter, stepAt, gapAfter, planAfter}
 use Rattle.rules.specs.Refusals.{refuse, _otherwise_}
-use Rattle.rules.specs.Answers.{stepRefusal}
+use Rattle.rules.specs.Answers.{refusalAt, stepRefusal}
 use Rattle.laws.specs.FirstPlace.{first-cong}
 
 -- the same sizes, and the same figures at every material and limit of Q
@@ -125,7 +125,7 @@ module _ {P Q : Problem} (same : Agree P Q) where
   steps-at t = steps (stateAfter P t) ∙ ap (stepFrom Q) (states t)
 
   pub same-refusal : (k : ℕ) → stepRefusal P k ≡ stepRefusal Q k
-  unfolding stepRefusal infeasible diverged
+  unfolding stepRefusal refusalAt infeasible diverged
   same-refusal k =
       first-cong k _ _
       (λ t _ i.

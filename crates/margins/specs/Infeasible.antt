@@ -11,7 +11,7 @@ use Rattle.rules.specs.Sheet.{sheetOf, problem}
 use Rattle.rules.specs.Step.{infeasible, stepFrom}
 use Rattle.rules.specs.Run.{stepAt}
 use Rattle.rules.specs.Refusals.{Numbered, refuse, _otherwise_, firstBelow, layoutRefusal, refusalBeforeSteps}
-use Rattle.rules.specs.Answers.{stepRefusal, refusal}
+use Rattle.rules.specs.Answers.{refusalAt, stepRefusal, refusal}
 use Rattle.laws.specs.NotRefused.{otherwise-none}
 use Rattle.margins.specs.Accepted.{accepted}
 use Rattle.margins.specs.WeakDuality.{none-feasible}
@@ -50,7 +50,7 @@ module _ (P : Problem) (start-sign : StartSign P) where
   infeasible-step t above = none-feasible (facts P start-sign t) (ltZ-yes above)
 
   steps-margins : (k : ℕ) → RefusalMargins P (stepRefusal P k)
-  unfolding stepRefusal
+  unfolding stepRefusal refusalAt
   steps-margins k =
       first-margins P k _ (λ t.
       otherwise-margins P _ _ (refuse-margins P 9 t _ (λ above _. infeasible-step t above)) (λ _. other-margins P 10 t _ tt))

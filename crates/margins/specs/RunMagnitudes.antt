@@ -18,7 +18,7 @@ use Rattle.rules.specs.Sheet.{sheetOf, problem}
 use Rattle.rules.specs.Step.{greatestCost, infeasible, diverged, next}
 use Rattle.rules.specs.Run.{startingMultiplier, start, stateAfter, stepAt, gapAfter}
 use Rattle.rules.specs.Refusals.{firstBelow, layoutRefusal}
-use Rattle.rules.specs.Answers.{stepRefusal}
+use Rattle.rules.specs.Answers.{refusalAt, stepRefusal}
 use Rattle.margins.specs.Minimal.{minimal-within}
 use Rattle.margins.specs.Lagrangian.{at-zero}
 use Rattle.margins.specs.CostRange.{cheapestEnd, greatestEnd, cheapestCost, cheapest-minimal, greatest-minimal, InCostRange, cost-in-range}
@@ -50,7 +50,7 @@ pub record RunMagnitudes (P : Problem) (t : ℕ) : Type 0 where
 -- where steps 0 to t are not refused, neither are steps 0 to t−1, and step t meets neither rule 3 nor rule 4
 not-refused : (P : Problem) (t : ℕ) → stepRefusal P (suc t) ≡ none
     → (stepRefusal P t ≡ none) × T (not (infeasible P (stepAt P t))) × T (not (diverged P (stepAt P t)))
-unfolding stepRefusal firstBelow
+unfolding stepRefusal refusalAt firstBelow
 not-refused P t h =
     let (before, here) = otherwise-none _ _ h in
     let (nine, ten) = otherwise-none _ _ here in

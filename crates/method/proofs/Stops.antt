@@ -9,12 +9,12 @@ use Rattle.rules.specs.Problem.{Problem}
 use Rattle.rules.specs.Step.{infeasible, diverged}
 use Rattle.rules.specs.Run.{stateAfter, stepAt}
 use Rattle.rules.specs.Refusals.{Numbered, numbered}
-use Rattle.rules.specs.Answers.{stepRefusal}
+use Rattle.rules.specs.Answers.{refusalAt, stepRefusal}
 use Rattle.laws.specs.FirstPlace.{refuse-yes, refuse-no, given, handed-on, first-more, first-found}
 use Rattle.method.specs.declared.State.{State}
 use Rattle.method.specs.declared.Stepped.{Stepped}
 use Rattle.method.specs.declared.Stop.the-variants.{Going, Stopped}
-use Rattle.method.specs.Arrays.{arraysOf, refusalOf, refusalAt, stepsTaken, HandsBack}
+use Rattle.method.specs.Arrays.{arraysOf, refusalOf, stepsTaken, HandsBack}
 
 -- ---- the refusal of step t, by its two tests
 module _ (P : Problem) (t : ℕ) where
@@ -59,7 +59,7 @@ module _ (P : Problem) {t : ℕ} {r : Stepped} (before : stepRefusal P t ≡ non
     none-here = sym (h .stop) ∙ ap refusalOf g
 
     pub still-going : stepRefusal P (t + 1) ≡ none
-    unfolding stepRefusal refusalAt
+    unfolding stepRefusal
     still-going = first-more (refusalAt P) before none-here
 
     pub next-state : r .state ≡ arraysOf (stateAfter P (t + 1))
@@ -68,7 +68,7 @@ module _ (P : Problem) {t : ℕ} {r : Stepped} (before : stepRefusal P t ≡ non
 
   -- the step is refused
   pub hands-on : (k : ℕ) → t < k → {x : Refusal} → r .stop ≡ Stopped x → HandsBack P k (stepRefusal P k) r
-  unfolding refusalOf stepsTaken stepRefusal refusalAt
+  unfolding refusalOf stepsTaken stepRefusal
   hands-on k l {x} g =
       let here : refusalAt P t ≡ some (numbered x) = sym (h .stop) ∙ ap refusalOf g in
       let first : stepRefusal P k ≡ some (numbered x) = first-found (refusalAt P) k l before here in

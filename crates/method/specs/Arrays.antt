@@ -3,10 +3,9 @@ use mathlib.Core.Path.{_≡_}
 use mathlib.Core.Option.{Option, none, some}
 use Prim.Native.Nat.{ℕ}
 use Rattle.rules.specs.Problem.{Problem}
-use Rattle.rules.specs.Step.{infeasible, diverged}
 use Rattle.rules.specs.Step as step
-use Rattle.rules.specs.Run.{stateAfter, stepAt}
-use Rattle.rules.specs.Refusals.{Numbered, numbered, refuse, _otherwise_}
+use Rattle.rules.specs.Run.{stateAfter}
+use Rattle.rules.specs.Refusals.{Numbered, numbered}
 use Rattle.figures.specs.Padded.{padded}
 use Rattle.method.specs.declared.State.{State}
 use Rattle.method.specs.declared.Stop.{Stop}
@@ -26,10 +25,6 @@ arraysOf w = record {
 unfoldable pub refusalOf : Stop → Option Numbered
 refusalOf Going = none
 refusalOf (Stopped r) = some (numbered r)
-
--- the refusal of step t, if any: 9 before 10
-unfoldable pub refusalAt : Problem → ℕ → Option Numbered
-refusalAt P t = refuse 9 t (infeasible P (stepAt P t)) otherwise refuse 10 t (diverged P (stepAt P t))
 
 -- the steps that were taken of k: all, or those before the one that is refused
 unfoldable pub stepsTaken : ℕ → Option Numbered → ℕ

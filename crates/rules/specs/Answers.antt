@@ -22,9 +22,13 @@ unfoldable pub outcome : Answer → Outcome
 outcome (Answer.Plan low gap) = plan low gap
 outcome (Answer.Refused r) = refused (numbered r)
 
--- Refusals 9 and 10: the first of k steps that is refused, 9 before 10 within a step. The place is the step's number.
+-- Refusals 9 and 10 at step t, 9 before 10. The place is the step's number.
+unfoldable pub refusalAt : Problem → ℕ → Option Numbered
+refusalAt P t = let q = stepAt P t in refuse 9 t (infeasible P q) otherwise refuse 10 t (diverged P q)
+
+-- the refusal of the first of k steps that is refused
 unfoldable pub stepRefusal : Problem → ℕ → Option Numbered
-stepRefusal P k = firstBelow k (λ t. let q = stepAt P t in refuse 9 t (infeasible P q) otherwise refuse 10 t (diverged P q))
+stepRefusal P k = firstBelow k (refusalAt P)
 
 -- the one refusal of a sheet, if any
 unfoldable pub refusal : List ℕ → ℕ → Option Numbered
