@@ -39,8 +39,18 @@ fn unsigned_32(s: &[u8], at: usize) -> u32
     low + 65536 * high
 }
 
+// The unsigned number in the 8 bytes from place `at` on.
+fn unsigned_64(s: &[u8], at: usize) -> u64
+    requires { ⌜ Inside 8 (now s) at ⌝ }
+    ensures { λ r. ⌜ r ≡ unsignedAt 8 (now (s .entry)) at ⌝ }
+{
+    let low = unsigned_32(s, at) as u64;
+    let high = unsigned_32(s, at + 4) as u64;
+    low + 4294967296 * high
+}
+
 // 32 bits as a signed number.
-fn signed(v: u32) -> i32
+fn signed_of_32(v: u32) -> i32
     ensures { λ r. ⌜ r ≡ signedOf 4 v ⌝ }
 {
     if v < 2147483648 {
@@ -50,10 +60,29 @@ fn signed(v: u32) -> i32
     }
 }
 
+// 64 bits as a signed number.
+fn signed_of_64(v: u64) -> i64
+    ensures { λ r. ⌜ r ≡ signedOf 8 v ⌝ }
+{
+    if v < 9223372036854775808 {
+        v as i64
+    } else {
+        -1 - ((18446744073709551615 - v) as i64)
+    }
+}
+
 // The signed number in the 4 bytes from place `at` on.
 pub fn signed_32(s: &[u8], at: usize) -> i32
     requires { ⌜ Inside 4 (now s) at ⌝ }
     ensures { λ r. ⌜ r ≡ signedAt 4 (now (s .entry)) at ⌝ }
 {
-    signed(unsigned_32(s, at))
+    signed_of_32(unsigned_32(s, at))
+}
+
+// The signed number in the 8 bytes from place `at` on.
+pub fn signed_64(s: &[u8], at: usize) -> i64
+    requires { ⌜ Inside 8 (now s) at ⌝ }
+    ensures { λ r. ⌜ r ≡ signedAt 8 (now (s .entry)) at ⌝ }
+{
+    signed_of_64(unsigned_64(s, at))
 }

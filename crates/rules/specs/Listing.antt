@@ -2,10 +2,16 @@
 use Prim.Native.Nat.{ℕ, zero, suc, _+_, _/_, _%_}
 use Prim.Native.Char.{code}
 use Prim.Native.String as String
+use mathlib.Core.Path.{_≡_}
+use mathlib.Core.Bool.{Bool, cond}
 use mathlib.Core.List.{List, [], _∷_, _++_}
+use lib.ListN.{length, drop}
 use lib.IntN.{ℤ, pos, negsuc}
+use lib.Dec.{leb}
 use Rattle.integer.specs.Vector.{at}
 use Rattle.rules.specs.Run.{Plan}
+use Rattle.rules.specs.Record.{recorded, holdsRecord}
+use Rattle.rules.specs.Refusals.{Numbered}
 use Rattle.rules.specs.Answers.{Outcome, plan, refused, planOf, answer}
 
 -- the bytes of a text of ASCII characters
@@ -48,11 +54,29 @@ planText p =
     ++ line "low" (p .low ∷ [])
     ++ line "gap" (p .gap ∷ [])
 
--- the text of an answer: a plan's lines, or the refusal's line with number and place
+-- A refusal prints one line, `refused`, number, place.
+unfoldable pub refusalText : Numbered → List ℕ
+refusalText r = line "refused" (pos (r .number) ∷ pos (r .place) ∷ [])
+
+-- the text of an answer, and of the figures of its plan
 unfoldable pub textOf : Plan → Outcome → List ℕ
 textOf p (plan low gap) = planText p
-textOf p (refused r) = line "refused" (pos (r .number) ∷ pos (r .place) ∷ [])
+textOf p (refused r) = refusalText r
 
 -- The listing of the answer to a sheet's bytes and a record buffer of `room` bytes.
 unfoldable pub listing : List ℕ → ℕ → List ℕ
 listing s room = textOf (planOf s) (answer s room)
+
+-- The text of an answer and its record: of a plan what the record holds, and no text where its bytes hold no record.
+unfoldable pub textFrom : Outcome → List ℕ → List ℕ
+textFrom (plan low gap) r = cond (holdsRecord r) (planText (recorded r)) []
+textFrom (refused r) _ = refusalText r
+
+-- can lent bytes take a text?
+unfoldable pub fits : List ℕ → List ℕ → Bool
+fits t lent = leb (length t) (length lent)
+
+-- What writing a text to lent bytes gives: the bytes afterwards, and the length of what was written. A text that is longer than they are is not written.
+pub record Listed (t lent after : List ℕ) (result : ℕ) : Type 0 where
+  pub bytes : after ≡ cond (fits t lent) (t ++ drop (length t) lent) lent
+  pub long : result ≡ cond (fits t lent) (length t) 0

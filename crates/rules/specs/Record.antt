@@ -1,8 +1,12 @@
--- Document 01, "The record": the bytes of a plan.
+-- Document 01, "The record": the bytes of a plan, and the plan that such bytes hold.
 use Prim.Native.Nat.{ℕ, _+_, _*_}
+use mathlib.Core.Bool.{Bool, _&&_}
 use mathlib.Core.List.{List, [], _∷_, _++_}
+use lib.ListN.{length}
 use lib.IntN.{ℤ}
-use Rattle.rules.specs.Bytes.{unsignedBytes, signedBytes}
+use lib.Dec.{leb}
+use Rattle.integer.specs.Vector.{tabulate}
+use Rattle.rules.specs.Bytes.{unsignedAt, signedAt, unsignedBytes, signedBytes}
 use Rattle.rules.specs.Run.{Plan}
 
 -- figures of w bytes each, signed
@@ -25,3 +29,26 @@ recordOf p =
 -- its length, with n materials and m limits
 unfoldable pub recordLength : ℕ → ℕ → ℕ
 recordLength n m = 22 + 4 * n + 12 * m
+
+-- the plan whose figures stand where a record has them
+unfoldable pub recorded : List ℕ → Plan
+recorded r =
+    let n = unsignedAt 2 r 0 in
+    let m = unsignedAt 2 r 2 in
+    record {
+      materials = n;
+      limits = m;
+      steps = unsignedAt 2 r 4;
+      low = signedAt 8 r 6;
+      gap = signedAt 8 r 14;
+      sums = tabulate n (λ j. signedAt 4 r (22 + 4 * j));
+      multipliers = tabulate m (λ i. signedAt 4 r (22 + 4 * n + 4 * i));
+      residualTotals = tabulate m (λ i. signedAt 8 r (22 + 4 * n + 4 * m + 8 * i));
+    }
+
+-- do bytes begin with a record? Its sizes are at most the largest of a sheet, and all of it is there
+unfoldable pub holdsRecord : List ℕ → Bool
+holdsRecord r =
+    let n = unsignedAt 2 r 0 in
+    let m = unsignedAt 2 r 2 in
+    leb n 32 && leb m 16 && leb (recordLength n m) (length r)

@@ -17,10 +17,10 @@ use Rattle.rules.specs.Sheet.{valueUnder, figure, problem}
 use Rattle.rules.specs.Ranges.{ranges, indexOf, rangeOf, kindAt, inRange, between, dimensionsInRange, parametersInRange}
 use Rattle.rules.specs.Step.{anyBelow, reducedCost, amount, residual, dualValue, greatestCost, moved, stepFrom, infeasible, diverged, next}
 use Rattle.rules.specs.Run.{startingMultiplier, start, stateAfter, stepAt, gapAfter, planAfter}
-use Rattle.rules.specs.Record.{fields, recordOf, recordLength}
+use Rattle.rules.specs.Record.{fields, recordOf, recordLength, recorded, holdsRecord}
 use Rattle.rules.specs.Refusals.{numberOf, numbered, refuse, _otherwise_, firstBelow, noFigureAt, notAbove, badKey, badValue, crossed, layoutRefusal, refusalBeforeSteps}
 use Rattle.rules.specs.Answers.{outcome, refusalAt, stepRefusal, refusal, planOf, outcomeOf, answer, bufferOf, bufferAfter}
-use Rattle.rules.specs.Listing.{text, digits, decimal, spaced, line, lines, planText, textOf, listing}
+use Rattle.rules.specs.Listing.{text, digits, decimal, spaced, line, lines, planText, refusalText, textOf, listing, textFrom}
 
 -- ---- how a row is written
 
@@ -73,13 +73,14 @@ pub record Row : Type 0 where
 abbrev pub lent : ℕ → List ℕ
 lent room = replicate room 170
 
--- What the definitions give is what the row says: the answer, the buffer afterwards and the listing. Whoever unfolds it computes with them all.
+-- What the definitions give is what the row says: the answer, the buffer afterwards, the listing, and the listing out of answer and buffer. Whoever unfolds it computes with them all.
 unfoldable pub Holds : Row → Type 0
-unfolding sizes written nibble unspaced pairs outcome numbered numberOf maxℤ sumTo tabulate costOf loadOf unsignedAt signedOf signedAt unsignedBytes signedBytes valueUnder figure problem ranges indexOf rangeOf kindAt inRange between dimensionsInRange parametersInRange anyBelow reducedCost amount residual dualValue greatestCost moved stepFrom infeasible diverged next startingMultiplier start stateAfter stepAt gapAfter planAfter fields recordOf recordLength refuse _otherwise_ firstBelow noFigureAt notAbove badKey badValue crossed layoutRefusal refusalBeforeSteps refusalAt stepRefusal refusal planOf outcomeOf answer bufferOf bufferAfter text digits decimal spaced line lines planText textOf listing
+unfolding sizes written nibble unspaced pairs outcome numbered numberOf maxℤ sumTo tabulate costOf loadOf unsignedAt signedOf signedAt unsignedBytes signedBytes valueUnder figure problem ranges indexOf rangeOf kindAt inRange between dimensionsInRange parametersInRange anyBelow reducedCost amount residual dualValue greatestCost moved stepFrom infeasible diverged next startingMultiplier start stateAfter stepAt gapAfter planAfter fields recordOf recordLength recorded holdsRecord refuse _otherwise_ firstBelow noFigureAt notAbove badKey badValue crossed layoutRefusal refusalBeforeSteps refusalAt stepRefusal refusal planOf outcomeOf answer bufferOf bufferAfter text digits decimal spaced line lines planText refusalText textOf listing textFrom
 Holds r =
     (answer (r .sheet) (r .room) ≡ outcome (r .answer)) ×
     (bufferAfter (r .sheet) (lent (r .room)) ≡ r .bytes ++ drop (length (r .bytes)) (lent (r .room))) ×
-    (listing (r .sheet) (r .room) ≡ r .listing)
+    (listing (r .sheet) (r .room) ≡ r .listing) ×
+    (textFrom (answer (r .sheet) (r .room)) (bufferAfter (r .sheet) (lent (r .room))) ≡ r .listing)
 
 -- every row of a table holds
 unfoldable pub All : List Row → Type 0
