@@ -1,12 +1,13 @@
 -- Laws of the parts of a listing.
 use Prim.Native.Nat.{ℕ, zero, suc, _+_, _*_, _<_, _≤_}
 use mathlib.Core.Path.{_≡_, refl, sym, ap, subst, _∙_}
-use mathlib.Core.Bool.{cond}
+use mathlib.Core.Bool.{Bool, true, false, cond}
 use mathlib.Core.List.{List, [], _∷_, _++_, append-assoc, append-nil}
 use native.Mathlib.Omega.{arith}
 use Rattle.integer.specs.Vector.{at, tabulate, at-tabulate}
 use native.Mathlib.Numerals.{add-one}
-use borrow.Author.Tests.{le-leb, lt-leb}
+use borrow.Author.Tests.{leb-true, le-leb, lt-leb}
+use lib.Dec.{leb}
 use lib.ListN.{length, take, drop, getD}
 use lib.Seq.{take-suc, take-at}
 use lib.IntN.{ℤ, pos}
@@ -99,3 +100,12 @@ listed {t} {lent} p room =
 pub not-listed : {t lent : List ℕ} → length lent < length t → Listed t lent lent 0
 unfolding fits
 not-listed {t} {lent} long = record { bytes = simp (lt-leb (length t) (length lent) long); long = simp (lt-leb (length t) (length lent) long) }
+
+-- what is written ends inside the lent bytes
+pub listed-within : {t lent after : List ℕ} {end : ℕ} → Listed t lent after end → end ≤ length lent
+unfolding fits
+listed-within {t} {lent} l = rw (l .long) (within (leb (length t) (length lent)) refl)
+  where
+    within : (room : Bool) → leb (length t) (length lent) ≡ room → cond room (length t) 0 ≤ length lent
+    within true e = leb-true (length t) (length lent) e
+    within false e = omega arith

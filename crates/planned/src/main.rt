@@ -11,14 +11,15 @@
 // `tests/planned` makes the frames, and works out from document 01 what is to be printed.
 use libc::STDIN_FILENO;
 use libc::STDOUT_FILENO;
+use listing::number_of;
+use numbers::size_at;
 use rules::Answer;
-use rules::Cause;
 use rules::Refusal;
-ghost use Prim.Native.Nat.{_+_, _<_, _≤_};
-ghost use mathlib.Core.Path.{_≡_};
-ghost use lib.IntN.{natAbs};
-ghost use lib.ListN.{length};
-ghost use Rattle.rules.specs.Refusals.{numberOf};
+use text::put_byte;
+use text::put_bytes;
+use text::put_integer;
+use text::put_number;
+ghost use Prim.Native.Nat.{_≤_};
 
 // The longest buffer. The longest record has 342 bytes.
 const LENT: usize = 400;
@@ -26,144 +27,56 @@ const LENT: usize = 400;
 // The room for a line. A line takes less than 900 bytes.
 const ROOM: usize = 1024;
 
-// The number that document 01 gives a cause.
-fn number_of(cause: Cause) -> usize
-    ensures { λ r. ⌜ r ≡ numberOf cause ⌝ }
-{
-    match cause {
-        Cause::Short => 1,
-        Cause::Dimensions => 2,
-        Cause::Length => 3,
-        Cause::Parameters => 4,
-        Cause::Key => 5,
-        Cause::Value => 6,
-        Cause::Bounds => 7,
-        Cause::Buffer => 8,
-        Cause::Infeasible => 9,
-        Cause::Diverged => 10,
-    }
-}
-
-// The magnitude of a value.
-fn magnitude(value: i64) -> u64
-    ensures { λ r. ⌜ r ≡ natAbs value ⌝ }
-{
-    if value < 0 {
-        (-1 - value) as u64 + 1
-    } else {
-        value as u64
-    }
-}
-
-// Each function from here to `put_answer` puts something into the line from place `at` on, and answers the place after it.
-
-// A text. One that has no room is left out.
-fn put(line: &mut [u8; ROOM], at: usize, text: &[u8]) -> usize
-    requires { ⌜ at ≤ 1024 ⌝ }
-    ensures { λ r. ⌜ r ≤ 1024 ⌝ }
-{
-    if ROOM - at < text.len() {
-        return at;
-    }
-    let mut i = 0;
-    while i < text.len() {
-        line[at + i] = text[i];
-        i += 1;
-    }
-    at + i
-}
-
-// A number in decimal digits.
-fn put_number(line: &mut [u8; ROOM], at: usize, number: u64) -> usize
-    requires { ⌜ at ≤ 1024 ⌝ }
-    ensures { λ r. ⌜ r ≤ 1024 ⌝ }
-{
-    let mut digits = [0u8; 20];
-    let count = io::decimal(number, &mut digits);
-    put(line, at, &digits[..count])
-}
-
-// A space and a number.
-fn put_field(line: &mut [u8; ROOM], at: usize, number: usize) -> usize
-    requires { ⌜ at ≤ 1024 ⌝ }
-    ensures { λ r. ⌜ r ≤ 1024 ⌝ }
-{
-    let after = put(line, at, b" ");
-    put_number(line, after, number as u64)
-}
-
-// A space and a number with its sign.
-fn put_value(line: &mut [u8; ROOM], at: usize, value: i64) -> usize
-    requires { ⌜ at ≤ 1024 ⌝ }
-    ensures { λ r. ⌜ r ≤ 1024 ⌝ }
-{
-    let size = magnitude(value);
-    if value < 0 {
-        let minus = put(line, at, b" -");
-        return put_number(line, minus, size);
-    }
-    let after = put(line, at, b" ");
-    put_number(line, after, size)
-}
-
-// A byte in two hexadecimal digits.
-fn put_byte(line: &mut [u8; ROOM], at: usize, byte: u8) -> usize
-    requires { ⌜ at ≤ 1024 ⌝ }
-    ensures { λ r. ⌜ r ≤ 1024 ⌝ }
-{
-    let mut digits = [0u8; 16];
-    let count = io::hex(byte as u64, 2, &mut digits);
-    put(line, at, &digits[..count])
-}
-
-// Bytes, one after the other.
-fn put_bytes(line: &mut [u8; ROOM], at: usize, bytes: &[u8]) -> usize
-    requires { ⌜ at ≤ 1024 ⌝ }
-    ensures { λ r. ⌜ r ≤ 1024 ⌝ }
-{
-    let mut end = at;
-    let mut i = 0;
-    while i < bytes.len() {
-        end = put_byte(line, end, bytes[i]);
-        i += 1;
-    }
-    end
-}
+// Each function from here to `put_hex` puts something at the end of the line, and answers the place after it.
 
 // A plan.
-fn put_plan(line: &mut [u8; ROOM], low: i64, gap: i64) -> usize
-    ensures { λ r. ⌜ r ≤ 1024 ⌝ }
-{
-    let at = put(line, 0, b"plan");
-    let after = put_value(line, at, low);
-    put_value(line, after, gap)
+fn put_plan(line: &mut [u8], low: i64, gap: i64) -> usize {
+    let named = put_bytes(line, 0, b"plan ");
+    let bounded = put_integer(line, named, low);
+    let parted = put_byte(line, bounded, b' ');
+    put_integer(line, parted, gap)
 }
 
 // A refusal.
-fn put_refused(line: &mut [u8; ROOM], refusal: Refusal) -> usize
-    ensures { λ r. ⌜ r ≤ 1024 ⌝ }
-{
+fn put_refused(line: &mut [u8], refusal: Refusal) -> usize {
     let cause = refusal.cause;
-    let at = put(line, 0, b"refused");
-    let numbered = put_field(line, at, number_of(cause));
-    put_field(line, numbered, refusal.place)
+    let named = put_bytes(line, 0, b"refused ");
+    let numbered = put_number(line, named, number_of(cause) as u64);
+    let parted = put_byte(line, numbered, b' ');
+    put_number(line, parted, refusal.place as u64)
 }
 
 // An answer.
-fn put_answer(line: &mut [u8; ROOM], answer: Answer) -> usize
-    ensures { λ r. ⌜ r ≤ 1024 ⌝ }
-{
+fn put_answer(line: &mut [u8], answer: Answer) -> usize {
     match answer {
         Answer::Plan { low, gap } => put_plan(line, low, gap),
         Answer::Refused(refusal) => put_refused(line, refusal),
     }
 }
 
+// A byte in two hexadecimal digits.
+fn put_hex_byte(line: &mut [u8], at: usize, byte: u8) -> usize {
+    let mut digits = [0u8; 16];
+    let count = io::hex(byte as u64, 2, &mut digits);
+    put_bytes(line, at, &digits[..count])
+}
+
+// Bytes in hexadecimal, one after the other.
+fn put_hex(line: &mut [u8], at: usize, bytes: &[u8]) -> usize {
+    let mut end = at;
+    let mut i: usize = 0;
+    while i < bytes.len() {
+        end = put_hex_byte(line, end, bytes[i]);
+        i += 1;
+    }
+    end
+}
+
 // Writes a line that ends before a place.
-fn write_line(line: [u8; ROOM], end: usize)
-    requires { ⌜ end ≤ 1024 ⌝ }
-{
-    io::write_all(STDOUT_FILENO, &line[0..end]);
+fn write_line(line: &[u8], end: usize) {
+    if end <= line.len() {
+        io::write_all(STDOUT_FILENO, &line[0..end]);
+    }
 }
 
 // What the buffer holds before a plan.
@@ -180,10 +93,10 @@ fn print_plan(sheet: &[u8], buffer: &mut [u8]) {
     fill(buffer);
     let mut line = [0u8; ROOM];
     let answered = put_answer(&mut line, planner::plan(sheet, buffer));
-    let parted = put(&mut line, answered, b" ");
-    let filled = put_bytes(&mut line, parted, buffer);
-    let end = put(&mut line, filled, b"\n");
-    write_line(line, end);
+    let parted = put_byte(&mut line, answered, b' ');
+    let filled = put_hex(&mut line, parted, buffer);
+    let end = put_byte(&mut line, filled, b'\n');
+    write_line(&line, end);
 }
 
 // Lends a buffer of a length to the plan of a sheet.
@@ -194,32 +107,17 @@ fn print_sheet(sheet: &[u8], lent: usize)
     print_plan(sheet, &mut buffer[0..lent]);
 }
 
-// A byte as a wider number.
-fn wide(byte: u8) -> usize
-    ensures { λ r. ⌜ r < 256 ⌝ }
-{
-    byte as usize
-}
-
-// A length of a frame.
-fn length_at(input: &[u8], at: usize) -> usize
-    requires { ⌜ at + 2 ≤ length (now input) ⌝ }
-    ensures { λ r. ⌜ r < 65536 ⌝ }
-{
-    wide(input[at]) + 256 * wide(input[at + 1])
-}
-
 // Prints the line of each frame of the input.
 fn print_frames(input: &[u8]) {
     let mut at = 0;
     while input.len() - at >= 2 {
         let start = at + 2;
-        let size = length_at(input, at);
+        let size = size_at(input, at);
         if input.len() - start < size + 2 {
             return;
         }
         let end = start + size;
-        let lent = length_at(input, end);
+        let lent = size_at(input, end);
         if LENT < lent {
             return;
         }

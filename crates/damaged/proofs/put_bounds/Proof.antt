@@ -1,15 +1,27 @@
--- `damaged::put_bounds` meets its contract. The loop stays inside the array, and the place inside the line.
+-- The loop stays inside the array.
+use mathlib.Core.Path.{_≡_}
 use Prim.Native.Nat.{_-_, _≤_}
 use borrow.Author.Needs.{needs}
-use lib.ListN.{length}
+use lib.IntN.{pos}
+use lib.ListN.{length, getD}
+use mir.Syntax.{w32}
+use mir.Val.{SFits}
+use mir.Facts.{toZ-ofZ, sfits-widen}
 use Rattle.damaged.proofs.put_bounds.Statement.{statement}
 use Rattle.damaged.proofs.put_bounds.Tie as tie
 
 abbrev Inv-loop : tie.InvT-loop
-Inv-loop line₀ at bounds end₀ i₀ line end i = (i ≤ length bounds) × (end ≤ 16384)
+Inv-loop line₀ at bounds end₀ i₀ line end i = (i ≤ length bounds) × (length line ≡ length line₀)
 
 abbrev μ-loop : tie.MeasureT-loop
 μ-loop line₀ at bounds end₀ i₀ line end i = length bounds - i
+
+-- a figure of 32 bits fits 64
+cast-put-figure : tie.Need-cast-put-figure Inv-loop μ-loop
+cast-put-figure c =
+    let loop = c .before .before .before in
+    let fits : SFits w32 (getD (loop .before .before .args .bounds .now) (loop .loop .i) (pos 0)) = record { sfits = c .put-figure-arg2 .given } in
+    simp (toZ-ofZ fits) (sfits-widen tt fits)
 
 pub put-bounds-spec : {M : Type 1} → statement M
 put-bounds-spec =
@@ -20,7 +32,9 @@ put-bounds-spec =
     (λ c. search needs)
     (λ c. search needs)
     (λ c. search needs)
+    cast-put-figure
     (λ c κs. search needs)
+    (λ c. search needs)
     (λ c. search needs)
     (λ c. search needs)
     (λ c. search needs)

@@ -1,0 +1,70 @@
+// batchplan: prints the listing of the batch sheet on standard input.
+//
+// It reads to the end of the input, or to one byte past the longest sheet, which is enough to know an overlong sheet for what it is.
+// Where the input cannot be read, or the listing cannot be written, it says so on standard error.
+use batchplan_lib::batchplan_listing;
+use libc::STDERR_FILENO;
+use libc::STDIN_FILENO;
+use libc::STDOUT_FILENO;
+ghost use Prim.Native.Nat.{_≤_};
+ghost use lib.ListN.{length};
+
+// One byte more than the longest sheet has.
+const BYTES: usize = 3757;
+
+// The room for a listing. It takes every listing.
+const ROOM: usize = 4096;
+
+// How many bytes were read, and whether a read failed.
+struct Input {
+    length: usize,
+    failed: bool,
+}
+
+// Reads until `sheet` is full, the input ends or a read fails, however the input is cut.
+fn read_input(sheet: &mut [u8]) -> Input
+    ensures { λ r. ⌜ r .length ≤ length (now (sheet .exit)) ⌝ }
+{
+    let mut done: usize = 0;
+    while done < sheet.len() {
+        let got = libc::read(STDIN_FILENO, &mut sheet[done..]);
+        if got < 0 {
+            return Input {
+                length: done,
+                failed: true,
+            };
+        }
+        let more = io::count(got, &sheet[done..]);
+        if more == 0 {
+            break;
+        }
+        done += more;
+    }
+    Input {
+        length: done,
+        failed: false,
+    }
+}
+
+// Prints the listing of a sheet.
+fn print_listing(sheet: &[u8]) {
+    let mut out = [0u8; ROOM];
+    let end = batchplan_listing(sheet, &mut out);
+    if !io::write_all(STDOUT_FILENO, &out[0..end]) {
+        io::write_all(
+            STDERR_FILENO,
+            b"batchplan: cannot write to standard output\n",
+        );
+    }
+}
+
+fn main() {
+    let mut sheet = [0u8; BYTES];
+    let input = read_input(&mut sheet);
+    if input.failed {
+        io::write_all(STDERR_FILENO, b"batchplan: cannot read standard input\n");
+        return;
+    }
+    let length = input.length;
+    print_listing(&sheet[0..length]);
+}

@@ -1,0 +1,68 @@
+-- What can be read out of the answer to a sheet and the buffer afterwards is the listing of the sheet.
+use mathlib.Core.Path.{_≡_, refl, ap, subst, _∙_}
+use mathlib.Core.List.{List}
+use mathlib.Core.Option.{Option, none, some}
+use Prim.Native.Nat.{ℕ}
+use native.Mathlib.Nat.{le-refl}
+use native.Mathlib.Omega.{arith}
+use lib.ListN.{length, drop}
+use Rattle.integer.specs.Range.{bnd-sfits}
+use Rattle.rules.specs.declared.Answer.{Answer}
+use Rattle.rules.specs.Problem.{Problem}
+use Rattle.rules.specs.Run.{planAfter}
+use Rattle.rules.specs.Record.{recordLength}
+use Rattle.rules.specs.Refusals.{Numbered, refusalBeforeSteps}
+use Rattle.rules.specs.Answers.{stepRefusal, refusal, planOf, outcome, outcomeOf, answer, bufferOf, bufferAfter}
+use Rattle.rules.specs.Listing.{textOf, textFrom, listing, Listed}
+use Rattle.rules.specs.Promise.{Promise}
+use Rattle.laws.specs.Lengths.{multipliers-length, sums-length, totals-length}
+use Rattle.laws.specs.NotRefused.{otherwise-none}
+use Rattle.margins.specs.Accepted.{Accepted, accepted}
+use Rattle.margins.specs.RunMagnitudes.{run-magnitudes}
+use Rattle.record.specs.PlanFits.{PlanFits}
+use Rattle.record.specs.RoundTrip.{round-trip, holds-record}
+
+-- the plan of an accepted problem, none of whose steps is refused, fits its record
+plan-fits : {P : Problem} {k : ℕ} → Accepted P k → stepRefusal P k ≡ none → PlanFits (planAfter P k)
+unfolding planAfter
+plan-fits {P} {k} a going =
+    let large = run-magnitudes a k (le-refl k) going .state in
+    record {
+      materials = omega arith;
+      limits = omega arith;
+      steps = omega arith;
+      low = large .low .fits;
+      gap = large .gap .fits;
+      sums-length = sums-length P k;
+      multipliers-length = multipliers-length P k;
+      totals-length = totals-length P k;
+      sum = λ j l. bnd-sfits tt (large .sum j l .bound);
+      multiplier = λ i l. bnd-sfits tt (large .multiplier i l .bound);
+      total = λ i l. large .residual-total i l .fits;
+    }
+
+module _ (s lent : List ℕ) where
+  -- where a refusal is met, and where none is
+  by : (met : Option Numbered) → refusal s (length lent) ≡ met
+      → textFrom (outcomeOf (planOf s) met) (bufferOf (planOf s) lent (outcomeOf (planOf s) met)) ≡ textOf (planOf s) (outcomeOf (planOf s) met)
+  unfolding refusal refusalBeforeSteps planAfter planOf outcomeOf bufferOf textFrom textOf
+  by (some r) e = refl
+  by none e =
+      let (before, going) = otherwise-none _ _ e in
+      let a = accepted s (otherwise-none _ _ before .0) in
+      let fits = plan-fits a going in
+      let rest = drop (recordLength (planOf s .materials) (planOf s .limits)) lent in
+      rw (holds-record fits (a .materials-few) (a .limits-few) rest, round-trip fits rest)
+
+  -- the law for every sheet and every buffer
+  pub listing-of-record : textFrom (answer s (length lent)) (bufferAfter s lent) ≡ listing s (length lent)
+  unfolding answer bufferAfter listing
+  listing-of-record = by (refusal s (length lent)) refl
+
+-- What is written of a planned sheet's answer and record is the listing of the sheet.
+pub listed : {s lent after out out' : List ℕ} {result : Answer} {room end : ℕ} → Promise s lent after result → length lent ≡ room
+    → Listed (textFrom (outcome result) after) out out' end → Listed (listing s room) out out' end
+listed {s} {lent} {out = out} {out' = out'} {end = end} p long =
+    subst
+    (λ t. Listed t out out' end)
+    ((λ k. textFrom (p .answered k) (p .buffer k)) ∙ listing-of-record s lent ∙ ap (listing s) long)
