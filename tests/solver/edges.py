@@ -1,0 +1,141 @@
+"""Fixed sheets at the edges of document 01's rules, with names, and most with an answer by hand."""
+import struct
+
+from draws import Draws, large_sheet
+from programs import ROOT
+from sheets import LISTINGS, MARKED, Case, bytes_of, damaged_sheets, ends_of_figures, full, lines_of, text_of
+
+# The fixed sheets: a name, the answer by hand or its beginning, and the sheet.
+EDGES = """
+# Lengths.
+empty input                         | refused 1 0       | n=1 -12
+1 byte                              | refused 1 0       | n=1 -11
+11 bytes                            | refused 1 0       | n=1 -1
+12 bytes                            | plan 0 0 0        | n=1
+C1 less a byte                      | refused 3 0       | C1 -1
+C1 and a byte                       | refused 3 0       | C1 +1
+C1 and two bytes                    | refused 3 0       | C1 +2
+C1 and the bytes of an entry        | refused 3 0       | C1 +6
+C7 and two bytes                    | refused 3 0       | C7 +2
+an entry named and missing          | refused 3 0       | n=1 e=1
+an entry there and not named        | refused 3 0       | n=1 e=0 0:3
+12 bytes of 0                       | refused 2 0       | n=0 m=0 p=0 D=0 k=0
+
+# Which refusal comes first, and which entry is named.
+too many entries for the bytes      | refused 2 0       | n=1 e=4
+too many entries, a bad one last    | refused 2 0       | n=1 0.0:1 1.0:1 2.0:1 1023.63:0
+bad value, then bad key             | refused 5 1       | n=2 0.0:0 0.2:1
+bad key, then bad value             | refused 5 0       | n=2 0.2:1 1.0:0
+bad key and value in one entry      | refused 5 0       | n=1 0.1:0
+bad keys at entries 1, 2 and 3      | refused 5 1       | n=2 m=1 0.0:1 0.2:1 1.2:1 0.3:1
+bad values at entries 1 and 2       | refused 6 1       | n=2 0.0:1 0.1:0 2.0:0
+crossed bounds, then bad key        | refused 5 2       | n=2 m=1 1.0:4 2.0:3 3.3:1
+crossed bounds, then bad value      | refused 6 2       | n=2 m=1 1.0:4 2.0:3 3.2:0
+crossed bounds at materials 1 and 2 | refused 7 1       | n=3 1.0:1 1.1:4 1.2:5 2.0:1 2.1:3 2.2:4
+a least amount and no most amount   | refused 7 1       | n=2 1.1:1 2.0:1
+a key twice                         | refused 5 1       | n=2 1:1 1:1
+key 0 twice                         | refused 5 1       | n=2 0:1 0:1
+keys that fall                      | refused 5 1       | n=2 m=2 256:1 193:1
+the last key again                  | refused 5 6       | n=2 m=1 0:3 1:1 128:10 129:10 192:-2 193:-1 193:-12
+
+# The ends of 4 bytes, and values of which the low two bytes alone would do.
+cost 2147483647                     | refused 6 0       | n=1 0.0:2147483647
+cost -2147483648                    | refused 6 0       | n=1 0.0:-2147483648
+b -2147483648                       | refused 6 0       | n=1 m=1 3.1:-2147483648
+cost 65537                          | refused 6 0       | n=1 0.0:65537
+a -65535                            | refused 6 0       | n=1 m=1 3.0:-65535
+
+# A weight of 0 takes the least amount: by costs of 0; at multiplier 2, in step 2; and at one material, then at two.
+ties in every step                  | plan 0 0 2 0 6    | n=3 k=2 1.0:1 1.2:3 2.0:4 2.1:5 2.2:3
+tie in step 2                       | plan 2 -2 3 1 1   | n=1 m=1 k=4 0.0:2 2.0:3 3.0:-1 3.1:-1
+ties at several materials           | plan 1 2 5 0 0 0 -2 | n=3 m=1 k=3 0.0:1 0.1:2 2.0:5 2.1:5 2.2:5 3.0:-1 3.1:-1 3.3:-1
+
+# No limits; a low below 0; a gap below 0, as C1 has it too.
+no limits                           | plan -5 0 6 2 2   | n=3 D=5 k=2 0.0:-1 0.1:2 1.0:1 1.1:1 1.2:1 2.0:3 2.1:3 2.2:3
+no limits, 4,096 steps              | plan -21 0 28672 4096 | n=2 D=3 k=4096 0.0:-1 1.0:7 1.1:1 2.0:7 2.1:9
+negative low and gap                | plan -3 -9 8 3 3  | n=1 m=1 k=5 0.0:-3 1.0:1 2.0:2 3.0:1 3.1:1
+
+# No lawful recipe: step t has the value 4 t, over a dearest cost of 100.
+no blend at step 26                 | refused 9 26      | n=1 m=1 k=4096 0.0:100 2.0:1 3.0:-1 3.1:-2
+as long as a step value is equal    | plan 100 -2600 0 52 52 | n=1 m=1 k=26 0.0:100 2.0:1 3.0:-1 3.1:-2
+no blend, with a dearest cost of 0  | refused 9 1       | n=1 m=1 k=2 3.1:-1
+9 and 10 in one step                | refused 9 1       | n=1 m=1 p=1024 k=2 3.1:-1000000
+10 in step 0, 9 would be in step 1  | refused 10 0      | C5 k=2
+9 in step 1, after the greatest M   | refused 9 1       | C6 k=2
+run away at the last limit alone    | refused 10 0      | n=1 m=16 p=1024 18.1:-1048577
+
+# Many steps: the multipliers of C1 go 0, 12, 14 and again.
+C1 with 4,096 steps                 | plan 104 120016 13650 27300 12 -5448 | C1 k=4096
+C1 with 4,097 steps                 | refused 4 0       | C1 k=4097
+"""
+
+# A size, the ends of its range, and the refusal outside it.
+SIZES = [("n", 1, 32, 2), ("m", 0, 16, 2), ("p", 1, 1_024, 4), ("D", 1, 1_024, 4), ("k", 1, 4_096, 4)]
+
+
+def ends_of_sizes():
+    """The last values inside the range of each size, the first outside it, and the greatest of 2 bytes."""
+    for name, least, greatest, number in SIZES:
+        for size in least, greatest:
+            yield Case(f"{name} {size}", "plan", bytes_of(f"n=1 {name}={size}"))
+        for size in sorted({least - 1, greatest + 1, greatest + 256, 65_535} - {-1}):
+            yield Case(f"{name} {size}", f"refused {number} 0", bytes_of(f"n=1 {name}={size}"))
+    for n, m in (1, 0), (1, 16), (32, 0), (5, 3), (32, 16):
+        every = full(n, m, "p=1 D=1 k=1")
+        yield Case(f"all entries of n {n}, m {m}", "plan", bytes_of(every))
+        yield Case(f"one entry more than n {n}, m {m} has", "refused 2 0", bytes_of(f"{every} 65535:1"))
+    yield Case("e 65535", "refused 2 0", bytes_of("n=32 m=16 e=65535"))
+
+
+def ends_of_keys():
+    """The last rows and columns that have a figure, and the first that have none."""
+    for n, m in (1, 0), (2, 1), (32, 0), (32, 16):
+        inside = [(row, n - 1) for row in (0, 2, m + 2)] + [(row, n) for row in (3, m + 2) if 3 <= row <= m + 2]
+        outside = [(0, n), (1, n), (2, n), (m + 2, n + 1), (m + 3, 0), (m + 3, n), (1_023, 63), (0, 63), (m + 2, 63)]
+        for row, column in dict.fromkeys(inside):
+            yield Case(f"n {n}, m {m}, key {row}.{column}", "plan", bytes_of(f"n={n} m={m} {row}.{column}:1"))
+        for row, column in dict.fromkeys(outside):
+            yield Case(f"n {n}, m {m}, key {row}.{column}", "refused 5 0", bytes_of(f"n={n} m={m} {row}.{column}:1"))
+
+
+def largest_sheets():
+    """Sheets of the largest sizes with every entry, and one in which a multiplier is at its greatest, or passes it, after many steps."""
+    longest = large_sheet(Draws(seed=1), "p=1 D=1024 k=4096", 0, 32_000_000)
+    yield Case("longest sheet, 4,096 steps", "plan", bytes_of(longest))
+    yield Case("longest sheet and a byte", "refused 3 0", bytes_of(f"{longest} +1"))
+    yield Case("longest sheet less a byte", "refused 3 0", bytes_of(f"{longest} -1"))
+    yield Case("longest sheet, no blend", "refused 9", bytes_of(large_sheet(Draws(seed=2), "D=1 k=99", -9_000_000, 9_000_000)))
+    yield Case("longest sheet, run away", "refused 10", bytes_of(large_sheet(Draws(seed=3), "p=1024 k=99", -32_000_000, 32_000_000)))
+    # Dear materials that no limit uses. Each step moves the multiplier by 1,024 times -b, and has the value -b times the multiplier.
+    for b, answer in (-256, f"plan {4_095 * 2**26} {-(2**12) * 4_095 * 2**26} 0"), (-257, "refused 10 4080"):
+        text = text_of("n=32 m=1 p=1024 D=1024 k=4096", [[10_000] * 32, [], [1_000] * 32, [0] * 32 + [b]])
+        yield Case(f"4,096 steps with a miss of {-b}", answer, bytes_of(text))
+
+
+def framed_sheets(crate, after):
+    """The sheets of a crate's standard input. Each frame has some bytes after its sheet."""
+    content, at, number = (ROOT / "crates" / crate / "stdin").read_bytes(), 0, 1
+    while at + 2 <= len(content):
+        end = at + 2 + struct.unpack_from("<H", content, at)[0]
+        yield Case(f"{crate} {number}", "", content[at + 2 : end])
+        at, number = end + after, number + 1
+
+
+def once(cases):
+    """Each sheet once, with its first name."""
+    return list({case.sheet: case for case in reversed(cases)}.values())[::-1]
+
+
+def named_edges():
+    """The fixed sheets with names."""
+    cases = [Case(name, LISTINGS[name].decode(), bytes_of(name)) for name in MARKED]
+    cases += [Case(name, answer, bytes_of(text)) for name, answer, text in lines_of(EDGES)]
+    cases += damaged_sheets()
+    for name, inside, entry, sheet in ends_of_figures():
+        cases.append(Case(name, "plan" if inside else f"refused 6 {entry}", sheet))
+    return once([*cases, *ends_of_sizes(), *ends_of_keys(), *largest_sheets()])
+
+
+def edges():
+    """The fixed sheets: those with names, and those that the programs `planned` and `damaged` are run on."""
+    return once([*named_edges(), *framed_sheets("planned", after=2), *framed_sheets("damaged", after=0)])

@@ -1,0 +1,149 @@
+"""Sheets as bytes from readable text, document 01's marked sheets, and families of sheets that more than one test is run on."""
+import struct
+from itertools import combinations
+from typing import NamedTuple
+
+from planner import record_length
+
+
+class Case(NamedTuple):
+    """A sheet with its name and, where there is one, the answer by hand: the whole listing, or the answer in words or its beginning."""
+
+    name: str
+    by_hand: str
+    sheet: bytes
+
+
+def begins(answer, by_hand):
+    """Whether an answer in words is the one by hand, or begins with its words."""
+    return not by_hand or f"{answer} ".startswith(f"{by_hand} ")
+
+
+def lines_of(table):
+    """The lines of a table, each cut into its columns, without the lines of comment."""
+    for line in table.splitlines():
+        if line and line[0] != "#":
+            yield [column.strip() for column in line.split("|")]
+
+
+# Document 01's marked sheets, and by hand what batchplan prints for each. A slash ends a line of the listing.
+TABLE = """
+C1  | n=2 m=1 D=8 k=4 0:3 1:1 128:10 129:10 192:-2 193:-1 194:-12 | steps 4/mat 0 10/mat 1 20/lim 0 12 8/low 104/gap -16/
+C2  | n=2 m=1 D=8 k=1 0:3 1:1 128:10 129:10 192:-2 193:-1 194:-12 | steps 1/mat 0 0/mat 1 0/lim 0 12 12/low 0/gap 0/
+C3  | n=1 m=1 k=2 0:1 128:1 192:-1 193:-5                         | refused 9 1/
+C4  | n=1 m=1 k=1 0:1 128:1 192:-1 193:-5                         | steps 1/mat 0 0/lim 0 5 5/low 0/gap 0/
+C5  | n=1 m=1 p=1024 193:-1048577                                 | refused 10 0/
+C6  | n=1 m=1 p=1024 193:-1048576                                 | steps 1/mat 0 0/lim 0 1073741824 1048576/low 0/gap 0/
+C7  | n=1 m=0                                                     | steps 1/mat 0 0/low 0/gap 0/
+C8  | n=1 m=0 k=2 0:-2 128:3                                      | steps 2/mat 0 6/low -6/gap 0/
+C9  | n=1 m=0 0:5 64:4 128:4                                      | steps 1/mat 0 4/low 20/gap 0/
+C10 | n=1 m=0 64:4 128:3                                          | refused 7 0/
+"""
+MARKED = {name: sheet for name, sheet, _ in lines_of(TABLE)}
+LISTINGS = {name: text.replace("/", "\n").encode() for name, _, text in lines_of(TABLE)}
+
+
+def words_of(text):
+    """The words of a sheet's text. The name of a marked sheet stands for its words."""
+    for word in text.split():
+        yield from MARKED.get(word, word).split()
+
+
+def packed(sizes, entries):
+    """The bytes of a sheet with six sizes and with entries of a key and a value."""
+    keys, values = zip(*entries) if entries else ((), ())
+    return struct.pack(f"<6H{len(keys)}H{len(keys)}i", *sizes, *keys, *values)
+
+
+def bytes_of(text):
+    """The bytes of a sheet. Its text has sizes, as n=2; entries, as key:value or row.column:value; and last by how many bytes the sheet is
+    made longer or shorter, as +1. Unnamed p, D, k are 1, m is 0, and e is the number of entries; of a size named twice the last counts."""
+    sizes, entries, change = {"m": 0, "p": 1, "D": 1, "k": 1}, [], 0
+    for word in words_of(text):
+        if "=" in word:
+            name, size = word.split("=")
+            sizes[name] = int(size)
+        elif ":" in word:
+            key, value = word.split(":")
+            row, _, column = key.rpartition(".")
+            entries.append((64 * int(row or 0) + int(column), int(value)))
+        else:
+            change = int(word)
+    sizes.setdefault("e", len(entries))
+    whole = packed([sizes[name] for name in "nmepDk"], entries)
+    return whole[: len(whole) + change] + bytes(max(change, 0))
+
+
+def text_of(sizes, rows):
+    """The text of a sheet with the rows of its figures. A figure of 0 has no entry."""
+    figures = [(row, column, value) for row, values in enumerate(rows) for column, value in enumerate(values)]
+    return f"{sizes} " + " ".join(f"{row}.{column}:{value}" for row, column, value in figures if value != 0)
+
+
+def framed(part):
+    """A frame of the programs of the gate: the length of a sheet in 2 bytes, and its bytes."""
+    return struct.pack("<H", len(part)) + part
+
+
+def fitting(sheet):
+    """The length of the record of a sheet. Sizes that are out of range or missing count as the largest."""
+    n, m = struct.unpack_from("<2H", sheet) if len(sheet) >= 4 else (32, 16)
+    return record_length(min(n, 32), min(m, 16))
+
+
+def lent(length):
+    """A buffer as the program `planned` lends it."""
+    return bytes((7 * i + 3) % 256 for i in range(length))
+
+
+def full(n, m, sizes="p=7 D=512 k=300"):
+    """A sheet with every entry that n and m allow. No two figures of a kind are equal, and those that may be negative have both signs."""
+    rows = [[key * 611 % 20_001 - 10_000 for key in range(n)]]
+    rows += [[key * 7 % 500 + 1 for key in range(64, 64 + n)], [key * 11 % 500 + 501 for key in range(128, 128 + n)]]
+    for first in range(192, 64 * (m + 3), 64):
+        a = [key * 611 % 2_001 - 1_000 for key in range(first, first + n)]
+        rows.append([*a, (first + n) * 54_321 % 64_000_001 - 32_000_000])
+    return text_of(f"n={n} m={m} {sizes}", rows)
+
+
+# A figure, a sheet with its value left open, the ends of the range of that value, and the place of its entry.
+OPEN = [
+    ("cost", "n=2 m=2 0.1:{}", -10_000, 10_000, 0),
+    ("least amount", "n=2 m=2 1.1:{} 2.1:1000", 1, 1_000, 0),
+    ("most amount", "n=2 m=2 0.0:5 2.1:{}", 1, 1_000, 1),
+    ("a", "n=2 m=2 0.0:5 4.1:{}", -1_000, 1_000, 1),
+    ("b", "n=2 m=2 0.0:5 4.1:5 4.2:{}", -32_000_000, 32_000_000, 2),
+]
+
+
+def ends_of_figures():
+    """The last values inside the range of each kind of figure, and then the first outside it and 0: a name, whether the value is inside,
+    its entry, and the sheet."""
+    for name, text, least, greatest, entry in OPEN:
+        for value in least, greatest:
+            yield f"{name} {value}", True, entry, bytes_of(text.format(value))
+        for value in sorted({least - 1, 0, greatest + 1}):
+            yield f"{name} {value}", False, entry, bytes_of(text.format(value))
+
+
+# A sound sheet, and a damage to it for each of refusals 1 to 7, with its place. The first leaves 11 bytes, which is a wrong length too.
+PARTS = "n={n} m=1 p={p} 0.0:{value} 1.0:{least} 2.0:10 {key}:5 {change}"
+SOUND = {"n": 2, "p": 1, "value": 3, "least": 4, "key": "3.0", "change": 0}
+DAMAGES = [
+    (1, 0, {"change": -25}),
+    (2, 0, {"n": 33}),
+    (3, 0, {"change": 1}),
+    (4, 0, {"p": 0}),
+    (5, 3, {"key": "1023.63"}),
+    (6, 0, {"value": 0}),
+    (7, 0, {"least": 11}),
+]
+
+
+def damaged_sheets():
+    """The sound sheet with each damage alone, and with each two of them, of which the first is due."""
+    for number, place, damage in DAMAGES:
+        yield Case(f"refusal {number} alone", f"refused {number} {place}", bytes_of(PARTS.format(**{**SOUND, **damage})))
+    for (number, place, damage), (other, _, later) in combinations(DAMAGES, 2):
+        both = PARTS.format(**{**SOUND, **later, **damage})
+        yield Case(f"refusals {number} and {other}", f"refused {number} {place}", bytes_of(both))
