@@ -51,7 +51,8 @@ fn answer_gap(answer: Answer) -> i64
     }
 }
 
-// Plans a sheet: any bytes, into any buffer. It answers 0 for a plan, with its low and gap and its record at the start of the buffer, and else document 01's number of the refusal, with its place and the buffer as it was.
+// Plans a sheet: any bytes, into any buffer. It answers 0 for a plan, with its low and gap and its record at the start of the buffer, and else
+// document 01's number of the refusal, with its place and the buffer as it was.
 #[no_mangle]
 pub extern "C" fn batchplan_plan(
     sheet: &[u8],
@@ -69,13 +70,13 @@ pub extern "C" fn batchplan_plan(
     answer_number(answer)
 }
 
-// Plans a sheet, any bytes, and writes its listing to the start of `out`. It answers the listing's length. Where the listing is longer than
-// `out`, nothing is written and the answer is 0. The record's 342 bytes take every record, so refusal 8 is never listed.
+// Plans a sheet, any bytes, and writes its listing to the start of `text`. It answers the listing's length. Where the listing is longer than
+// `text`, nothing is written and the answer is 0. The buffer of 342 bytes takes every record, so that refusal 8 is never listed.
 #[no_mangle]
-pub extern "C" fn batchplan_listing(sheet: &[u8], out: &mut [u8]) -> usize
-    ensures { λ r. ⌜ Listed (listing (now (sheet .entry)) 342) (now (out .entry)) (now (out .exit)) r ⌝ }
+pub extern "C" fn batchplan_listing(sheet: &[u8], text: &mut [u8]) -> usize
+    ensures { λ r. ⌜ Listed (listing (now (sheet .entry)) 342) (now (text .entry)) (now (text .exit)) r ⌝ }
 {
     let mut record = [0u8; 342];
     let answer = plan(sheet, &mut record);
-    write_listing(answer, &record, out)
+    write_listing(answer, &record, text)
 }

@@ -1,0 +1,70 @@
+/*
+ * Plans a sheet and prints its figures, then its listing.
+ *
+ *     example [FILE]     the sheet is FILE, or standard input
+ *
+ * To compile, after `rt staticlib batchplan_lib`:
+ *
+ *     gcc -std=c99 -Wall -Wextra -Werror -Ilibrary/include library/example.c -Ltarget/staticlib -lbatchplan_lib -o example
+ */
+#include <inttypes.h>
+#include <stdio.h>
+
+#include "batchplan.h"
+
+/* An unsigned number of 2 bytes, little-endian. */
+static unsigned size_at(const uint8_t *bytes)
+{
+    return bytes[0] + 256u * bytes[1];
+}
+
+/* A number of 4 bytes, little-endian. The sums of a record are never negative. */
+static uint32_t sum_at(const uint8_t *bytes)
+{
+    return bytes[0] | (uint32_t)bytes[1] << 8 | (uint32_t)bytes[2] << 16 | (uint32_t)bytes[3] << 24;
+}
+
+/* Reads a sheet. One byte more than the longest is enough to tell that a sheet is too long. Gives 0 where it cannot be read. */
+static int read_sheet(const char *name, uint8_t *sheet, size_t room, size_t *length)
+{
+    FILE *file = name ? fopen(name, "rb") : stdin;
+    int good;
+    if (!file)
+        return 0;
+    *length = fread(sheet, 1, room, file);
+    good = !ferror(file);
+    if (name)
+        fclose(file);
+    return good;
+}
+
+/* Prints low, gap, and each material's sum out of the record. */
+static void print_plan(int64_t low, int64_t gap, const uint8_t *record)
+{
+    unsigned materials = size_at(record), steps = size_at(record + 4), j;
+    printf("low %" PRId64 ", gap %" PRId64 ", %u steps\n", low, gap, steps);
+    for (j = 0; j < materials; j++) {
+        uint32_t sum = sum_at(record + 22 + 4 * j);
+        printf("material %u: sum %" PRIu32 ", averaged amount %.3f\n", j, sum, (double)sum / steps);
+    }
+}
+
+int main(int count, char **arguments)
+{
+    static uint8_t sheet[BATCHPLAN_SHEET_BYTES + 1];
+    uint8_t record[BATCHPLAN_RECORD_BYTES], text[BATCHPLAN_LISTING_BYTES];
+    size_t length, number, place;
+    int64_t low, gap;
+
+    if (!read_sheet(count > 1 ? arguments[1] : NULL, sheet, sizeof sheet, &length)) {
+        fputs("the sheet cannot be read\n", stderr);
+        return 2;
+    }
+    number = batchplan_plan(sheet, length, record, sizeof record, &place, &low, &gap);
+    if (number == BATCHPLAN_PLAN)
+        print_plan(low, gap, record);
+    else
+        printf("refusal %zu at place %zu\n", number, place);
+    fwrite(text, 1, batchplan_listing(sheet, length, text, sizeof text), stdout);
+    return 0;
+}

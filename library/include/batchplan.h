@@ -1,0 +1,92 @@
+/*
+ * batchplan: plans a batch sheet.
+ *
+ * A sheet has n materials with costs and bounds, m limits, a step length p/D and a step count k. Planning it walks k steps of a dual
+ * subgradient method in whole numbers, and gives the sums of the step amounts, a lower bound on cost (low), a gap, and for each limit the
+ * closing multiplier and the overshoot. Document 01 of the project states the layout of a sheet and every rule.
+ *
+ * The functions are proved: for every sheet and every buffer, their numbers and every byte that they leave are those of document 01's
+ * definitions, and they always return. The proofs are about the functions as they are called by the rules below. Nothing checks a C caller.
+ *
+ * What the caller keeps, of every pointer and length that it passes:
+ *   - `sheet` points to `sheet_bytes` bytes that can be read; `record` and `text` point to as many bytes as the length beside them says,
+ *     which can be read and written. Where a length is 0 the pointer may be NULL: no byte is read or written through it.
+ *   - `place`, `low` and `gap` each point to an aligned object of their type that can be written. They are written by every call, and are
+ *     never NULL.
+ *   - No two of these objects overlap, and none changes, by another thread or a signal handler, until the call returns.
+ * There are no other conditions: the bytes of a sheet may be any bytes, and a buffer may have any length.
+ *
+ * The functions keep no state, allocate nothing, print nothing and read no clock, file or environment. So threads may call them at the
+ * same time, each with its own objects. They want some 12 KB of stack. The largest sheet takes some two milliseconds.
+ *
+ * To link: the archive target/staticlib/libbatchplan_lib.a, made by `rt staticlib batchplan_lib`, for x86-64 Linux, and the C library.
+ */
+#ifndef BATCHPLAN_H
+#define BATCHPLAN_H
+
+#include <stddef.h>
+#include <stdint.h>
+
+#ifdef __cplusplus
+extern "C" {
+#endif
+
+/* The length of the longest sheet. A longer one is refused. */
+#define BATCHPLAN_SHEET_BYTES 3756
+
+/* The length of the longest record: a record buffer of this length takes every record, so that no sheet is refused with 8. */
+#define BATCHPLAN_RECORD_BYTES 342
+
+/* A text buffer of this length takes every listing. */
+#define BATCHPLAN_LISTING_BYTES 4096
+
+/* What batchplan_plan answers: 0 for a plan, and else document 01's number of the refusal. `place` is 0 where nothing else is said. */
+enum {
+    BATCHPLAN_PLAN = 0,        /* a plan */
+    BATCHPLAN_SHORT = 1,       /* the sheet has under 12 bytes */
+    BATCHPLAN_DIMENSIONS = 2,  /* n, m or the count of entries is outside its range */
+    BATCHPLAN_LENGTH = 3,      /* the sheet's length is not what its count of entries asks for */
+    BATCHPLAN_PARAMETERS = 4,  /* p, D or k is outside its range */
+    BATCHPLAN_KEY = 5,         /* an entry's key names no figure, or is not above the one before; place: the entry, from 0 */
+    BATCHPLAN_VALUE = 6,       /* an entry's value is 0 or outside its range; place: the entry, from 0 */
+    BATCHPLAN_BOUNDS = 7,      /* a material's least amount is above its most amount; place: the material, from 0 */
+    BATCHPLAN_BUFFER = 8,      /* the record buffer is too short; place: the length that the record has */
+    BATCHPLAN_INFEASIBLE = 9,  /* no recipe keeps all bounds and limits ("no blend"); place: the step, from 0 */
+    BATCHPLAN_DIVERGED = 10    /* a multiplier grew above 1,073,741,824; place: the step, from 0 */
+};
+
+/*
+ * Plans a sheet.
+ *
+ * For a plan: the answer is 0, *place is 0, *low and *gap are the plan's figures, and the record stands at the start of the buffer. The
+ * bytes of the buffer after the record are as they were.
+ *
+ * For a refusal: the answer is its number, 1 to 10, *place is its place, *low and *gap are 0, and every byte of the buffer is as it was.
+ *
+ * A record, all figures little-endian, has 22 + 4n + 12m bytes:
+ *   at 0             n          2 bytes, unsigned
+ *   at 2             m          2 bytes, unsigned
+ *   at 4             k          2 bytes, unsigned
+ *   at 6             low        8 bytes, signed
+ *   at 14            gap        8 bytes, signed
+ *   at 22            n sums         of 4 bytes each, signed; the averaged amount of a material is its sum / k
+ *   at 22 + 4n       m multipliers  of 4 bytes each, signed
+ *   at 22 + 4n + 4m  m overshoots   of 8 bytes each, signed
+ */
+size_t batchplan_plan(const uint8_t *sheet, size_t sheet_bytes, uint8_t *record, size_t record_bytes,
+                      size_t *place, int64_t *low, int64_t *gap);
+
+/*
+ * Writes the listing of a sheet: what the program batchplan prints. The sheet is planned with a record buffer of its own, of
+ * BATCHPLAN_RECORD_BYTES bytes, so that it is never refused with 8.
+ *
+ * The answer is the length of the listing, which stands at the start of the text buffer; the bytes after it are as they were. There is no
+ * closing 0 byte. Where the listing is longer than the buffer, the answer is 0 and every byte of the buffer is as it was.
+ */
+size_t batchplan_listing(const uint8_t *sheet, size_t sheet_bytes, uint8_t *text, size_t text_bytes);
+
+#ifdef __cplusplus
+}
+#endif
+
+#endif

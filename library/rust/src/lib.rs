@@ -1,0 +1,263 @@
+//! Plans batch sheets.
+//!
+//! A sheet has n materials with costs and bounds, m limits, a step length p/D and a step count k. Planning it walks k steps of a dual
+//! subgradient method in whole numbers, and gives the sums of the step amounts, a lower bound on cost (`low`), a gap, and for each limit
+//! the closing multiplier and the overshoot. Document 01 of the project states the layout of a sheet and every rule.
+//!
+//! The work is done by a library in Rattle that is proved to answer, for every sheet and every buffer, what document 01's definitions
+//! give. This crate declares its two functions and makes them safe to call: every function here takes any bytes, and none panics. The
+//! library is for x86-64 Linux.
+//!
+//! ```
+//! // one material of cost 5, from 4 to 4; a step of 1/1, and one step
+//! let mut sheet = Vec::new();
+//! for size in [1u16, 0, 3, 1, 1, 1] {
+//!     sheet.extend(size.to_le_bytes());
+//! }
+//! for key in [0u16, 64, 128] {
+//!     sheet.extend(key.to_le_bytes());
+//! }
+//! for value in [5i32, 4, 4] {
+//!     sheet.extend(value.to_le_bytes());
+//! }
+//! let plan = batchplan::Plan::of_sheet(&sheet).unwrap();
+//! assert_eq!((plan.low, plan.gap, &plan.sums[..]), (20, 0, &[4][..]));
+//! assert_eq!(batchplan::listing(&sheet), "steps 1\nmat 0 4\nlow 20\ngap 0\n");
+//! ```
+#![warn(missing_docs)]
+
+use std::error::Error;
+use std::fmt;
+
+/// The length of the longest sheet. A longer one is refused.
+pub const SHEET_BYTES: usize = 3756;
+
+/// The length of the longest record. A buffer of this length takes every record, so that no sheet is refused with 8.
+pub const RECORD_BYTES: usize = 342;
+
+/// A buffer of this length takes every listing.
+const LISTING_BYTES: usize = 4096;
+
+// Declared as in library/include/batchplan.h.
+extern "C" {
+    fn batchplan_plan(
+        sheet: *const u8,
+        sheet_bytes: usize,
+        record: *mut u8,
+        record_bytes: usize,
+        place: *mut usize,
+        low: *mut i64,
+        gap: *mut i64,
+    ) -> usize;
+
+    fn batchplan_listing(
+        sheet: *const u8,
+        sheet_bytes: usize,
+        text: *mut u8,
+        text_bytes: usize,
+    ) -> usize;
+}
+
+/// Why a sheet is refused. The number of each is document 01's.
+#[non_exhaustive]
+#[derive(Clone, Copy, Debug, PartialEq, Eq, Hash)]
+pub enum Cause {
+    /// The sheet has under 12 bytes.
+    Short = 1,
+    /// n, m or the count of entries is outside its range.
+    Dimensions = 2,
+    /// The sheet's length is not what its count of entries asks for.
+    Length = 3,
+    /// p, D or k is outside its range.
+    Parameters = 4,
+    /// An entry's key names no figure, or is not above the one before. The place is the entry.
+    Key = 5,
+    /// An entry's value is 0 or outside its range. The place is the entry.
+    Value = 6,
+    /// A material's least amount is above its most amount. The place is the material.
+    Bounds = 7,
+    /// The record buffer is too short. The place is the length that the record has.
+    Buffer = 8,
+    /// No recipe keeps all bounds and limits ("no blend"). The place is the step.
+    Infeasible = 9,
+    /// A multiplier grew above 1,073,741,824. The place is the step.
+    Diverged = 10,
+}
+
+impl Cause {
+    const ALL: [Cause; 10] = [
+        Cause::Short,
+        Cause::Dimensions,
+        Cause::Length,
+        Cause::Parameters,
+        Cause::Key,
+        Cause::Value,
+        Cause::Bounds,
+        Cause::Buffer,
+        Cause::Infeasible,
+        Cause::Diverged,
+    ];
+
+    /// Document 01's number, 1 to 10.
+    pub fn number(self) -> u8 {
+        self as u8
+    }
+
+    fn of_number(number: usize) -> Cause {
+        // The library is proved to answer 0 to 10, and 0 is no refusal.
+        Cause::ALL[number - 1]
+    }
+}
+
+impl fmt::Display for Cause {
+    fn fmt(&self, f: &mut fmt::Formatter) -> fmt::Result {
+        f.write_str(match self {
+            Cause::Short => "the sheet has under 12 bytes",
+            Cause::Dimensions => "n, m or the count of entries is outside its range",
+            Cause::Length => "the sheet's length does not fit its count of entries",
+            Cause::Parameters => "p, D or k is outside its range",
+            Cause::Key => "an entry's key names no figure or is out of order",
+            Cause::Value => "an entry's value is 0 or outside its range",
+            Cause::Bounds => "a material's least amount is above its most",
+            Cause::Buffer => "the record buffer is too short",
+            Cause::Infeasible => "no recipe keeps all bounds and limits",
+            Cause::Diverged => "a multiplier ran away",
+        })
+    }
+}
+
+/// A refusal: its cause and its place, which is 0 where the cause says nothing of it.
+#[derive(Clone, Copy, Debug, PartialEq, Eq, Hash)]
+pub struct Refusal {
+    /// Why.
+    pub cause: Cause,
+    /// Where.
+    pub place: usize,
+}
+
+impl fmt::Display for Refusal {
+    fn fmt(&self, f: &mut fmt::Formatter) -> fmt::Result {
+        write!(f, "refused {} at {}: {}", self.cause.number(), self.place, self.cause)
+    }
+}
+
+impl Error for Refusal {}
+
+/// The answer to a sheet.
+#[derive(Clone, Copy, Debug, PartialEq, Eq, Hash)]
+pub enum Answer {
+    /// A plan. Its record stands at the start of the buffer, and the bytes after it are as they were.
+    Plan {
+        /// D times a lower bound on the cost of every lawful recipe.
+        low: i64,
+        /// k times D times a bound on what the averaged recipe costs more than any lawful one. It may be negative.
+        gap: i64,
+    },
+    /// A refusal. Every byte of the buffer is as it was.
+    Refused(Refusal),
+}
+
+/// Plans a sheet into a record buffer. Both may have any length and hold any bytes.
+///
+/// A record is n, m and k in 2 bytes each, low and gap in 8, n sums and m multipliers in 4, m overshoots in 8, little-endian:
+/// 22 + 4n + 12m bytes. [`Plan::of_record`] reads it.
+pub fn plan(sheet: &[u8], record: &mut [u8]) -> Answer {
+    let (mut place, mut low, mut gap) = (0, 0, 0);
+    // SAFETY: each pointer and length is that of a Rust slice, and each of the other three pointers that of a local variable of its type.
+    // So all can be read, and those that the function writes can be written; and no two overlap, because `record` is borrowed mutably.
+    let number = unsafe {
+        batchplan_plan(
+            sheet.as_ptr(),
+            sheet.len(),
+            record.as_mut_ptr(),
+            record.len(),
+            &mut place,
+            &mut low,
+            &mut gap,
+        )
+    };
+    match number {
+        0 => Answer::Plan { low, gap },
+        _ => Answer::Refused(Refusal { cause: Cause::of_number(number), place }),
+    }
+}
+
+/// The listing of a sheet, as the program batchplan prints it: the lines of the plan, or the line `refused`, number, place.
+pub fn listing(sheet: &[u8]) -> String {
+    let mut text = vec![0; LISTING_BYTES];
+    // SAFETY: each pointer and length is that of a Rust slice; `text` can be written, and is this function's own, so that it does not
+    // overlap `sheet`.
+    let length =
+        unsafe { batchplan_listing(sheet.as_ptr(), sheet.len(), text.as_mut_ptr(), text.len()) };
+    text.truncate(length);
+    String::from_utf8(text).expect("a listing is ASCII")
+}
+
+/// What a plan says of one limit.
+#[derive(Clone, Copy, Debug, PartialEq, Eq, Hash)]
+pub struct Limit {
+    /// The closing multiplier, times D.
+    pub multiplier: i32,
+    /// The total of the misses of all steps.
+    pub overshoot: i64,
+}
+
+/// A plan, as its record holds it.
+#[derive(Clone, Debug, PartialEq, Eq, Hash)]
+pub struct Plan {
+    /// k.
+    pub steps: u16,
+    /// D times a lower bound on the cost of every lawful recipe.
+    pub low: i64,
+    /// k times D times a bound on what the averaged recipe costs more than any lawful one. It may be negative.
+    pub gap: i64,
+    /// For each material the total of its step amounts.
+    pub sums: Vec<i32>,
+    /// For each limit its multiplier and its overshoot.
+    pub limits: Vec<Limit>,
+}
+
+impl Plan {
+    /// Plans a sheet. There is no refusal 8, because the buffer takes every record.
+    pub fn of_sheet(sheet: &[u8]) -> Result<Plan, Refusal> {
+        let mut record = [0; RECORD_BYTES];
+        match plan(sheet, &mut record) {
+            Answer::Plan { .. } => Ok(Plan::of_record(&record).expect("a plan leaves its record")),
+            Answer::Refused(refusal) => Err(refusal),
+        }
+    }
+
+    /// The plan that stands at the start of a record buffer; `None` where the bytes are too few for the sizes that they begin with.
+    pub fn of_record(record: &[u8]) -> Option<Plan> {
+        let (sizes, rest) = record.split_at_checked(6)?;
+        let [n, m, steps] = [0, 2, 4].map(|at| u16::from_le_bytes([sizes[at], sizes[at + 1]]));
+        let (n, m) = (usize::from(n), usize::from(m));
+        let (figures, rest) = rest.split_at_checked(16)?;
+        let (sums, rest) = rest.split_at_checked(4 * n)?;
+        let (multipliers, rest) = rest.split_at_checked(4 * m)?;
+        let (overshoots, _) = rest.split_at_checked(8 * m)?;
+        let limits = numbers_32(multipliers).zip(numbers_64(overshoots));
+        Some(Plan {
+            steps,
+            low: numbers_64(figures).next()?,
+            gap: numbers_64(figures).nth(1)?,
+            sums: numbers_32(sums).collect(),
+            limits: limits.map(|(multiplier, overshoot)| Limit { multiplier, overshoot }).collect(),
+        })
+    }
+
+    /// The averaged amount of each material: its sum over the number of steps.
+    pub fn amounts(&self) -> impl Iterator<Item = f64> + '_ {
+        self.sums.iter().map(|&sum| f64::from(sum) / f64::from(self.steps))
+    }
+}
+
+/// Signed numbers of 4 bytes, little-endian.
+fn numbers_32(bytes: &[u8]) -> impl Iterator<Item = i32> + '_ {
+    bytes.chunks_exact(4).map(|each| i32::from_le_bytes(each.try_into().expect("4 bytes")))
+}
+
+/// Signed numbers of 8 bytes, little-endian.
+fn numbers_64(bytes: &[u8]) -> impl Iterator<Item = i64> + '_ {
+    bytes.chunks_exact(8).map(|each| i64::from_le_bytes(each.try_into().expect("8 bytes")))
+}

@@ -1,0 +1,278 @@
+//! The wrapper on document 01's marked sheets, on cut and overlong sheets, on buffers of many lengths, and on noise.
+use batchplan::{listing, plan, Answer, Cause, Limit, Plan, Refusal, RECORD_BYTES, SHEET_BYTES};
+
+/// A sheet: its sizes n, m, p, D, k, and its entries, each a key and a value.
+fn sheet([n, m, p, d, k]: [u16; 5], entries: &[(u16, i32)]) -> Vec<u8> {
+    let count = u16::try_from(entries.len()).unwrap();
+    let mut bytes = Vec::new();
+    for number in [n, m, count, p, d, k].into_iter().chain(entries.iter().map(|entry| entry.0)) {
+        bytes.extend(number.to_le_bytes());
+    }
+    for (_, value) in entries {
+        bytes.extend(value.to_le_bytes());
+    }
+    bytes
+}
+
+/// C1, with a step count.
+fn c1(steps: u16) -> Vec<u8> {
+    sheet(
+        [2, 1, 1, 8, steps],
+        &[(0, 3), (1, 1), (128, 10), (129, 10), (192, -2), (193, -1), (194, -12)],
+    )
+}
+
+/// C3, with a step count.
+fn c3(steps: u16) -> Vec<u8> {
+    sheet([1, 1, 1, 1, steps], &[(0, 1), (128, 1), (192, -1), (193, -5)])
+}
+
+/// The record of C1, by document 01's layout: n 2, m 1, k 4; low 104, gap -16; sums 10, 20; multiplier 12; overshoot 8.
+const C1_RECORD: [u8; 42] = [
+    2, 0, 1, 0, 4, 0, 104, 0, 0, 0, 0, 0, 0, 0, 0xf0, 0xff, 0xff, 0xff, 0xff, 0xff, 0xff, 0xff, 10,
+    0, 0, 0, 20, 0, 0, 0, 12, 0, 0, 0, 8, 0, 0, 0, 0, 0, 0, 0,
+];
+
+/// A plan: k; low, gap; the sums; the multipliers and overshoots.
+fn planned(
+    steps: u16,
+    [low, gap]: [i64; 2],
+    sums: &[i32],
+    limits: &[(i32, i64)],
+) -> Result<Plan, Refusal> {
+    let limits =
+        limits.iter().map(|&(multiplier, overshoot)| Limit { multiplier, overshoot }).collect();
+    Ok(Plan { steps, low, gap, sums: sums.to_vec(), limits })
+}
+
+fn refused(cause: Cause, place: usize) -> Result<Plan, Refusal> {
+    Err(Refusal { cause, place })
+}
+
+/// Document 01's marked sheets, with what it says of each.
+fn marked() -> Vec<(&'static str, Vec<u8>, Result<Plan, Refusal>)> {
+    vec![
+        ("C1", c1(4), planned(4, [104, -16], &[10, 20], &[(12, 8)])),
+        ("C2", c1(1), planned(1, [0, 0], &[0, 0], &[(12, 12)])),
+        ("C3", c3(2), refused(Cause::Infeasible, 1)),
+        ("C4", c3(1), planned(1, [0, 0], &[0], &[(5, 5)])),
+        ("C5", sheet([1, 1, 1024, 1, 1], &[(193, -1_048_577)]), refused(Cause::Diverged, 0)),
+        (
+            "C6",
+            sheet([1, 1, 1024, 1, 1], &[(193, -1_048_576)]),
+            planned(1, [0, 0], &[0], &[(1_073_741_824, 1_048_576)]),
+        ),
+        ("C7", sheet([1, 0, 1, 1, 1], &[]), planned(1, [0, 0], &[0], &[])),
+        ("C8", sheet([1, 0, 1, 1, 2], &[(0, -2), (128, 3)]), planned(2, [-6, 0], &[6], &[])),
+        (
+            "C9",
+            sheet([1, 0, 1, 1, 1], &[(0, 5), (64, 4), (128, 4)]),
+            planned(1, [20, 0], &[4], &[]),
+        ),
+        ("C10", sheet([1, 0, 1, 1, 1], &[(64, 4), (128, 3)]), refused(Cause::Bounds, 0)),
+    ]
+}
+
+/// What a record buffer holds before a plan: bytes that differ by place.
+fn filled(length: usize) -> Vec<u8> {
+    (0..length).map(|i| (7 * i + 3) as u8).collect()
+}
+
+/// The listing of what a sheet gives, as document 01 lays it out.
+fn text_of(result: &Result<Plan, Refusal>) -> String {
+    let plan = match result {
+        Ok(plan) => plan,
+        Err(refusal) => return format!("refused {} {}\n", refusal.cause.number(), refusal.place),
+    };
+    let mut text = format!("steps {}\n", plan.steps);
+    for (j, sum) in plan.sums.iter().enumerate() {
+        text += &format!("mat {j} {sum}\n");
+    }
+    for (i, limit) in plan.limits.iter().enumerate() {
+        text += &format!("lim {i} {} {}\n", limit.multiplier, limit.overshoot);
+    }
+    text + &format!("low {}\ngap {}\n", plan.low, plan.gap)
+}
+
+/// Plans a sheet into a buffer and holds the answer, the buffer and the listing together; gives the answer.
+fn tried(sheet: &[u8], length: usize) -> Answer {
+    let mut record = filled(length);
+    let answer = plan(sheet, &mut record);
+    let whole = Plan::of_sheet(sheet);
+    assert_eq!(listing(sheet), text_of(&whole));
+    match answer {
+        Answer::Plan { low, gap } => {
+            let held = Plan::of_record(&record).unwrap();
+            let end = 22 + 4 * held.sums.len() + 12 * held.limits.len();
+            assert_eq!((held.low, held.gap), (low, gap));
+            assert_eq!(Ok(held), whole);
+            assert_eq!(record[end..], filled(length)[end..]);
+        }
+        Answer::Refused(refusal) => {
+            assert_eq!(record, filled(length));
+            if refusal.cause != Cause::Buffer {
+                assert_eq!(Err(refusal), whole);
+            }
+        }
+    }
+    answer
+}
+
+#[test]
+fn marked_sheets() {
+    for (name, sheet, expected) in marked() {
+        assert_eq!(Plan::of_sheet(&sheet), expected, "{name}");
+        assert_eq!(listing(&sheet), text_of(&expected), "{name}");
+        tried(&sheet, RECORD_BYTES);
+    }
+}
+
+#[test]
+fn listings_of_c1_and_c3() {
+    assert_eq!(listing(&c1(4)), "steps 4\nmat 0 10\nmat 1 20\nlim 0 12 8\nlow 104\ngap -16\n");
+    assert_eq!(listing(&c3(2)), "refused 9 1\n");
+}
+
+#[test]
+fn averaged_amounts() {
+    assert_eq!(Plan::of_sheet(&c1(4)).unwrap().amounts().collect::<Vec<_>>(), [2.5, 5.0]);
+}
+
+#[test]
+fn nothing_and_a_megabyte_of_zeros() {
+    for length in [0, 60] {
+        assert_eq!(tried(&[], length), Answer::Refused(Refusal { cause: Cause::Short, place: 0 }));
+        assert_eq!(
+            tried(&vec![0; 1 << 20], length),
+            Answer::Refused(Refusal { cause: Cause::Dimensions, place: 0 })
+        );
+    }
+}
+
+#[test]
+fn c1_cut_and_overlong() {
+    let whole = c1(4);
+    let mut long = whole.clone();
+    long.resize(SHEET_BYTES + 1, 0);
+    for length in (0..=long.len()).filter(|&length| length != whole.len()) {
+        let cause = if length < 12 { Cause::Short } else { Cause::Length };
+        assert_eq!(
+            tried(&long[..length], 60),
+            Answer::Refused(Refusal { cause, place: 0 }),
+            "{length} bytes"
+        );
+    }
+}
+
+#[test]
+fn c1_in_buffers_of_each_length() {
+    for length in 0..=60 {
+        let mut record = filled(length);
+        let answer = plan(&c1(4), &mut record);
+        if length < 42 {
+            assert_eq!(
+                answer,
+                Answer::Refused(Refusal { cause: Cause::Buffer, place: 42 }),
+                "{length} bytes"
+            );
+            assert_eq!(record, filled(length), "{length} bytes");
+        } else {
+            assert_eq!(answer, Answer::Plan { low: 104, gap: -16 }, "{length} bytes");
+            assert_eq!(record[..42], C1_RECORD, "{length} bytes");
+            assert_eq!(record[42..], filled(length)[42..], "{length} bytes");
+        }
+    }
+}
+
+/// Numbers without a meaning: the upper half of x, which each draw makes 6,364,136,223,846,793,005 x + 1,442,695,040,888,963,407 of 64 bits.
+struct Draws(u64);
+
+impl Draws {
+    fn below(&mut self, bound: u32) -> u32 {
+        self.0 =
+            self.0.wrapping_mul(6_364_136_223_846_793_005).wrapping_add(1_442_695_040_888_963_407);
+        (self.0 >> 32) as u32 % bound
+    }
+
+    fn bytes(&mut self, length: usize) -> Vec<u8> {
+        (0..length).map(|_| self.below(256) as u8).collect()
+    }
+
+    /// A figure of a small sheet, at a row and a column; now and then one out of range, or a limit that no recipe keeps.
+    fn figure(&mut self, row: u32, column: u32, n: u32) -> i32 {
+        let small = self.below(10) as i32;
+        match (row, self.below(100)) {
+            (3.., 0..8) if column == n => -(1 + small) * 1_000_000,
+            (1, 0) => -small,
+            (0 | 1, _) => small,
+            (2, _) => 9 + small,
+            _ if column == n => 2 * small - 12,
+            _ => small - 5,
+        }
+    }
+
+    /// A small sheet. A figure of 0 has no entry.
+    fn sheet(&mut self) -> Vec<u8> {
+        let (n, m) = (1 + self.below(6), self.below(4));
+        let p = if self.below(5) == 0 { 1024 } else { 1 + self.below(5) };
+        let (d, k) = (1 + self.below(40), 1 + self.below(60));
+        let places =
+            (0..m + 3).flat_map(|row| (0..n + u32::from(row > 2)).map(move |column| (row, column)));
+        let entries: Vec<_> = places
+            .map(|(row, column)| ((64 * row + column) as u16, self.figure(row, column, n)))
+            .collect();
+        let entries: Vec<_> = entries.into_iter().filter(|entry| entry.1 != 0).collect();
+        sheet([n, m, p, d, k].map(|size| size as u16), &entries)
+    }
+
+    /// A small sheet, in every fourth case with one byte changed, and in every eighth cut.
+    fn damaged(&mut self) -> Vec<u8> {
+        let mut sheet = self.sheet();
+        let place = self.below(sheet.len() as u32) as usize;
+        match self.below(8) {
+            0 | 1 => sheet[place] = self.below(256) as u8,
+            2 => sheet.truncate(place),
+            _ => {}
+        }
+        sheet
+    }
+}
+
+#[test]
+fn noise() {
+    let mut draws = Draws(1);
+    for _ in 0..2_000 {
+        let (length, room) = (draws.below(200), draws.below(80));
+        let bytes = draws.bytes(length as usize);
+        assert!(matches!(tried(&bytes, room as usize), Answer::Refused(_)));
+    }
+}
+
+#[test]
+fn small_sheets_whole_and_damaged() {
+    let mut draws = Draws(2);
+    let mut met = [0; 11];
+    for _ in 0..3_000 {
+        let sheet = draws.damaged();
+        let room = if draws.below(4) == 0 { 40 } else { RECORD_BYTES };
+        match tried(&sheet, room) {
+            Answer::Plan { .. } => met[0] += 1,
+            Answer::Refused(refusal) => met[usize::from(refusal.cause.number())] += 1,
+        }
+    }
+    assert!(met.iter().all(|&count| count > 4), "plans and refusals 1 to 10 all occur: {met:?}");
+}
+
+#[test]
+fn threads_at_the_same_time() {
+    let all: Vec<_> = marked();
+    std::thread::scope(|scope| {
+        for _ in 0..4 {
+            scope.spawn(|| {
+                for (name, sheet, expected) in all.iter().cycle().take(2_000) {
+                    assert_eq!(&Plan::of_sheet(sheet), expected, "{name}");
+                }
+            });
+        }
+    });
+}
