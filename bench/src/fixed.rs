@@ -1,5 +1,5 @@
 //! The same planner as the fastest plain Rust that was found: arrays of fixed size, each figure in as few bits as the ranges allow.
-use crate::layout::{read, refuse, Entry, Sizes};
+use crate::layout::{answer, read, refuse, Entry, Sizes};
 use batchplan::{Answer, Cause, Refusal};
 
 struct Figures {
@@ -148,8 +148,5 @@ fn plan_or_refuse(sheet: &[u8], record: &mut [u8]) -> Result<(i64, i64), Refusal
 }
 
 pub fn plan(sheet: &[u8], record: &mut [u8]) -> Answer {
-    match plan_or_refuse(sheet, record) {
-        Ok((low, gap)) => Answer::Plan { low, gap },
-        Err(refusal) => Answer::Refused(refusal),
-    }
+    answer(plan_or_refuse(sheet, record))
 }

@@ -1,5 +1,5 @@
 //! The layout of a batch sheet, as both plain planners read it: refusals 1 to 6.
-use batchplan::{Cause, Refusal};
+use batchplan::{Answer, Cause, Refusal};
 
 pub struct Sizes {
     pub n: usize,
@@ -15,6 +15,14 @@ pub struct Entry {
     pub row: usize,
     pub column: usize,
     pub value: i32,
+}
+
+/// A plan's low and gap, or the refusal, as the library answers them.
+pub fn answer(planned: Result<(i64, i64), Refusal>) -> Answer {
+    match planned {
+        Ok((low, gap)) => Answer::Plan { low, gap },
+        Err(refusal) => Answer::Refused(refusal),
+    }
 }
 
 pub fn refuse(cause: Cause, place: usize) -> Refusal {

@@ -1,5 +1,5 @@
 //! A planner from document 01 as one writes it without further thought: figures of 64 bits in vectors, and nested loops by index.
-use crate::layout::{read, refuse, Entry, Sizes};
+use crate::layout::{answer, read, refuse, Entry, Sizes};
 use batchplan::{Answer, Cause, Refusal};
 
 struct Figures {
@@ -160,8 +160,5 @@ fn plan_or_refuse(sheet: &[u8], record: &mut [u8]) -> Result<(i64, i64), Refusal
 }
 
 pub fn plan(sheet: &[u8], record: &mut [u8]) -> Answer {
-    match plan_or_refuse(sheet, record) {
-        Ok((low, gap)) => Answer::Plan { low, gap },
-        Err(refusal) => Answer::Refused(refusal),
-    }
+    answer(plan_or_refuse(sheet, record))
 }
