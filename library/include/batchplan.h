@@ -3,7 +3,20 @@
  *
  * A sheet has n materials with costs and bounds, m limits, a step length p/D and a step count k. Planning it walks k steps of a dual
  * subgradient method in whole numbers, and gives the sums of the step amounts, a lower bound on cost (low), a gap, and for each limit the
- * closing multiplier and the overshoot. Document 01 of the project states the layout of a sheet and every rule.
+ * closing multiplier and the overshoot. Document 01, the project's task paper, states every rule; docs/PROMISES.md quotes it sentence by
+ * sentence.
+ *
+ * A sheet, all figures little-endian, has 12 + 6e bytes:
+ *   at 0        six sizes of 2 bytes each, unsigned: n, m, e, p, D, k
+ *   at 12       e keys of 2 bytes each, unsigned, rising: row * 64 + column
+ *   at 12 + 2e  e values of 4 bytes each, signed, none of them 0, in the order of their keys
+ * A figure that has no entry is 0. n is 1 to 32, m 0 to 16, e at most n(m + 3) + m, p and D 1 to 1,024, k 1 to 4,096. Rows are
+ *   0           column j: the cost of material j,          -10,000 to 10,000
+ *   1           column j: its least amount,                1 to 1,000
+ *   2           column j: its most amount,                 1 to 1,000
+ *   3 + i       column j: a of limit i and material j,     -1,000 to 1,000
+ *   3 + i       column n: b of limit i,                    -32,000,000 to 32,000,000
+ * and limit i says that the sum of a times amount is at most b.
  *
  * The functions are proved: for every sheet and every buffer, their numbers and every byte that they leave are those of document 01's
  * definitions, and they always return. The proofs are about the functions as they are called by the rules below. Nothing checks a C caller.

@@ -1,5 +1,5 @@
 -- What can be read out of the answer to a sheet and the buffer afterwards is the listing of the sheet.
-use mathlib.Core.Path.{_≡_, refl, ap, subst, _∙_}
+use mathlib.Core.Path.{_≡_, refl, ap, _∙_}
 use mathlib.Core.List.{List}
 use mathlib.Core.Option.{Option, none, some}
 use Prim.Native.Nat.{ℕ}
@@ -13,7 +13,7 @@ use Rattle.rules.specs.Run.{planAfter}
 use Rattle.rules.specs.Record.{recordLength}
 use Rattle.rules.specs.Refusals.{Numbered, refusalBeforeSteps}
 use Rattle.rules.specs.Answers.{stepRefusal, refusal, planOf, outcome, outcomeOf, answer, bufferOf, bufferAfter}
-use Rattle.rules.specs.Listing.{textOf, textFrom, listing, Listed}
+use Rattle.rules.specs.Listing.{textOf, textFrom, listing}
 use Rattle.rules.specs.Promise.{Promise}
 use Rattle.laws.specs.Lengths.{multipliers-length, sums-length, totals-length}
 use Rattle.laws.specs.NotRefused.{otherwise-none}
@@ -59,10 +59,6 @@ module _ (s lent : List ℕ) where
   unfolding answer bufferAfter listing
   listing-of-record = by (refusal s (length lent)) refl
 
--- What is written of a planned sheet's answer and record is the listing of the sheet.
-pub listed : {s lent after out out' : List ℕ} {result : Answer} {room end : ℕ} → Promise s lent after result → length lent ≡ room
-    → Listed (textFrom (outcome result) after) out out' end → Listed (listing s room) out out' end
-listed {s} {lent} {out = out} {out' = out'} {end = end} p long =
-    subst
-    (λ t. Listed t out out' end)
-    ((λ k. textFrom (p .answered k) (p .buffer k)) ∙ listing-of-record s lent ∙ ap (listing s) long)
+-- What a planned sheet's answer and record say is the listing of the sheet.
+pub listing-is : {s lent after : List ℕ} {result : Answer} {room : ℕ} → Promise s lent after result → length lent ≡ room → textFrom (outcome result) after ≡ listing s room
+listing-is {s} {lent} p long = (λ k. textFrom (p .answered k) (p .buffer k)) ∙ listing-of-record s lent ∙ ap (listing s) long

@@ -1,5 +1,7 @@
 // What C and Rust call: planning a sheet on byte slices and numbers, with no type of Rattle's. `library/include/batchplan.h` declares it for C.
+ghost use Prim.Native.Nat.{_≤_};
 ghost use mathlib.Core.Path.{_≡_};
+ghost use lib.ListN.{length};
 ghost use Rattle.rules.specs.Answers.{outcome};
 ghost use Rattle.rules.specs.Listing.{listing, Listed};
 ghost use Rattle.batchplan_lib.specs.Called.{number, placeOf, lowOf, gapOf, Called};
@@ -71,10 +73,12 @@ pub extern "C" fn batchplan_plan(
 }
 
 // Plans a sheet, any bytes, and writes its listing to the start of `text`. It answers the listing's length. Where the listing is longer than
-// `text`, nothing is written and the answer is 0. The buffer of 342 bytes takes every record, so that refusal 8 is never listed.
+// `text`, nothing is written and the answer is 0; a listing has at most 4,096 bytes. The buffer of 342 bytes takes every record, so that
+// refusal 8 is never listed.
 #[no_mangle]
 pub extern "C" fn batchplan_listing(sheet: &[u8], text: &mut [u8]) -> usize
     ensures { λ r. ⌜ Listed (listing (now (sheet .entry)) 342) (now (text .entry)) (now (text .exit)) r ⌝ }
+    ensures { λ _. ⌜ length (listing (now (sheet .entry)) 342) ≤ 4096 ⌝ }
 {
     let mut record = [0u8; 342];
     let answer = plan(sheet, &mut record);

@@ -49,5 +49,4 @@ no-text r none = rw none (record { puts = puts-none; short = omega arith })
 pub record-text : (r : List ℕ) {d d' : List ℕ} {n m end : ℕ} → ((i : ℕ) → Fits w8 (getD r i 0)) → Sized r n m → Puts (planText (recorded r)) d 0 d' end
     → Begins (cond (holdsRecord r) (planText (recorded r)) []) d d' end
 record-text r {n = n} {m = m} bytes s p =
-    let held = all-there r n m s in
-    rw held (record { puts = p; short = length-plan-text r bytes held })
+    rw (all-there r n m s) (record { puts = p; short = length-plan-text r n m bytes s })

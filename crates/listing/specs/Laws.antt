@@ -94,17 +94,17 @@ unfolding fits
 listed {t} {lent} p room =
     let (is, ends) = whole-put p room in
     let room-is = sym (le-leb (length t) (length lent) room) in
-    record { bytes = is ∙ (λ k. cond (room-is k) (t ++ drop (length t) lent) lent); long = ends ∙ (λ k. cond (room-is k) (length t) 0) }
+    record { bytes-are = is ∙ (λ k. cond (room-is k) (t ++ drop (length t) lent) lent); length-is = ends ∙ (λ k. cond (room-is k) (length t) 0) }
 
 -- a longer one is not
 pub not-listed : {t lent : List ℕ} → length lent < length t → Listed t lent lent 0
 unfolding fits
-not-listed {t} {lent} long = record { bytes = simp (lt-leb (length t) (length lent) long); long = simp (lt-leb (length t) (length lent) long) }
+not-listed {t} {lent} long = record { bytes-are = simp (lt-leb (length t) (length lent) long); length-is = simp (lt-leb (length t) (length lent) long) }
 
 -- what is written ends inside the lent bytes
 pub listed-within : {t lent after : List ℕ} {end : ℕ} → Listed t lent after end → end ≤ length lent
 unfolding fits
-listed-within {t} {lent} l = rw (l .long) (within (leb (length t) (length lent)) refl)
+listed-within {t} {lent} l = rw (l .length-is) (within (leb (length t) (length lent)) refl)
   where
     within : (room : Bool) → leb (length t) (length lent) ≡ room → cond room (length t) 0 ≤ length lent
     within true e = leb-true (length t) (length lent) e

@@ -1,6 +1,5 @@
 -- How long the text of a record is at most: any bytes that hold a record, whatever its figures.
-use mathlib.Core.Path.{_≡_}
-use mathlib.Core.Bool.{true}
+use mathlib.Core.Path.{sym}
 use mathlib.Core.List.{List, [], _∷_}
 use Prim.Native.Nat.{ℕ, zero, suc, _+_, _*_, _<_, _≤_}
 use Prim.Native.String.{String}
@@ -13,12 +12,12 @@ use mir.Val.{Fits, SFits}
 use Rattle.integer.specs.Range.{small-fits, wider}
 use Rattle.integer.specs.Vector.{at}
 use Rattle.rules.specs.Run.{Plan}
-use Rattle.rules.specs.Record.{recorded, holdsRecord}
+use Rattle.rules.specs.Record.{recorded}
 use Rattle.rules.specs.Refusals.{Numbered}
 use Rattle.rules.specs.Listing.{text, decimal, spaced, line, lines, planText, refusalText}
 use Rattle.text.specs.Laws.{length-decimal}
 use Rattle.record.specs.PlanFits.{PlanFits, recorded-fits}
-use Rattle.record.specs.RoundTrip.{sizes}
+use Rattle.listing.specs.Parts.{Sized}
 
 -- every figure of a line is a number of 64 bits
 unfoldable Every : List ℤ → Type 0
@@ -73,10 +72,11 @@ module _ {p : Plan} (fits : PlanFits p) where
   unfolding planText
   length-text narrow few = simp length-append (omega (arith, steps-line, mat-lines, lim-lines, low-line, gap-line))
 
--- the text of any bytes that hold a record
-pub length-plan-text : (r : List ℕ) → ((i : ℕ) → Fits w8 (getD r i 0)) → holdsRecord r ≡ true → length (planText (recorded r)) ≤ 4096
+-- the text of any bytes that begin with a record
+pub length-plan-text : (r : List ℕ) (n m : ℕ) → ((i : ℕ) → Fits w8 (getD r i 0)) → Sized r n m → length (planText (recorded r)) ≤ 4096
 unfolding recorded
-length-plan-text r bytes h = length-text (recorded-fits r bytes) (sizes r h .narrow) (sizes r h .few)
+length-plan-text r n m bytes s =
+    length-text (recorded-fits r bytes) (rw (sym (s .materials)) (s .few-materials)) (rw (sym (s .limits)) (s .few-limits))
 
 -- the line of a refusal, where number and place have at most 20 digits
 pub length-refusal-text : (r : Numbered) → length (decimal (pos (r .number))) ≤ 20 → length (decimal (pos (r .place))) ≤ 20 → length (refusalText r) ≤ 4096

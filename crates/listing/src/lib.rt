@@ -24,7 +24,7 @@ use text::put_bytes;
 use text::put_integer;
 use text::put_number;
 
-// The room for a text. A text takes at most 2,621 bytes.
+// The room for a text. It takes every text.
 const ROOM: usize = 4096;
 
 // The number that document 01 gives a cause.
@@ -179,7 +179,7 @@ fn put_record(d: &mut [u8], record: &[u8]) -> usize
     put_plan(d, record, n, m)
 }
 
-// A space and a number that is not negative.
+// A space and a number that is not negative. It has at most 20 digits.
 fn put_size(d: &mut [u8], at: usize, v: usize) -> usize
     ensures { λ r. ⌜ Puts (ascii " " ++ decimal (pos v)) (now (d .entry)) at (now (d .exit)) r ⌝ }
     ensures { λ _. ⌜ length (decimal (pos v)) ≤ 20 ⌝ }
@@ -204,15 +204,16 @@ fn put_answer(d: &mut [u8], answer: Answer, record: &[u8]) -> usize
     ensures { λ r. ⌜ Begins (textFrom (outcome answer) (now («record» .entry))) (now (d .entry)) (now (d .exit)) r ⌝ }
 {
     match answer {
-        Answer::Plan { low, gap } => put_record(d, record),
+        Answer::Plan { low: _, gap: _ } => put_record(d, record),
         Answer::Refused(refusal) => put_refusal(d, refusal),
     }
 }
 
-// Writes the text of an answer and its record to the start of `out`, and answers its length. Where the text is longer than `out`, nothing is
-// written and the answer is 0.
+// Writes the text of an answer and its record to the start of `out`, and answers its length. A text has at most 4,096 bytes. Where it is longer
+// than `out`, or the answer is a plan and the record's bytes hold no record, nothing is written and the answer is 0.
 pub fn write_listing(answer: Answer, record: &[u8], out: &mut [u8]) -> usize
     ensures { λ r. ⌜ Listed (textFrom (outcome answer) (now («record» .entry))) (now (out .entry)) (now (out .exit)) r ⌝ }
+    ensures { λ _. ⌜ length (textFrom (outcome answer) (now («record» .entry))) ≤ 4096 ⌝ }
 {
     let mut space = [0u8; ROOM];
     let end = put_answer(&mut space, answer, record);

@@ -54,7 +54,7 @@ module _ (s : List ℕ) (bytes : (i : ℕ) → Fits w8 (getD s i 0)) where
   unsigned-below zero o = omega arith
   unsigned-below (suc w) o = rw (pow-succ' 256 w) (omega (arith, bytes o, unsigned-below w (o + 1)))
 
--- and a signed number in one byte or more has a magnitude below half of that
+-- and for a signed number in one byte or more `mag`, which is n for n and for −(n + 1), is below half of that
 pub signed-below : (w v : ℕ) → v < 256 ^ suc w → mag (signedOf (suc w) v) < 256 ^ suc w / 2
 signed-below w v h = by (ltb v (256 ^ suc w / 2)) refl
   where

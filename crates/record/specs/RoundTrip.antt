@@ -5,11 +5,8 @@ use mathlib.Core.Bool.{true}
 use Prim.Native.Nat.{ℕ, _+_, _*_, _≤_}
 use native.Mathlib.Omega.{arith}
 use borrow.Author.Tests.{le-leb}
-use lib.Dec.{T}
-use lib.Ieee.Fits.{and-l, and-r}
 use lib.IntN.{ℤ}
 use lib.ListN.{length, length-append}
-use mir.Facts.{leb-yes}
 use Rattle.integer.specs.Vector.{tabulate}
 use Rattle.rules.specs.Bytes.{unsignedAt, signedAt, unsignedBytes, signedBytes}
 use Rattle.rules.specs.Run.{Plan}
@@ -75,16 +72,3 @@ holds-record {p} fits narrow few rest =
     let n : unsignedAt 2 (recordOf p ++ rest) 0 ≡ p .materials = λ i. round-trip fits rest i .materials in
     let m : unsignedAt 2 (recordOf p ++ rest) 2 ≡ p .limits = λ i. round-trip fits rest i .limits in
     rw (n, m, le-leb (p .materials) 32, le-leb (p .limits) 16, le-leb (recordLength (p .materials) (p .limits)) (length (recordOf p ++ rest)) (whole-record fits rest))
-
--- the sizes of a record that bytes hold
-pub record Sizes (r : List ℕ) : Type 0 where
-  pub narrow : unsignedAt 2 r 0 ≤ 32
-  pub few : unsignedAt 2 r 2 ≤ 16
-  pub whole : recordLength (unsignedAt 2 r 0) (unsignedAt 2 r 2) ≤ length r
-
--- they are what was tested
-pub sizes : (r : List ℕ) → holdsRecord r ≡ true → Sizes r
-unfolding holdsRecord
-sizes r h =
-    let t : T (holdsRecord r) = rw h tt in
-    record { narrow = search (and-l, and-r, leb-yes); few = search (and-l, and-r, leb-yes); whole = search (and-l, and-r, leb-yes) }

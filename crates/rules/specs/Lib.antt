@@ -5,10 +5,10 @@
 --   Ranges     the table of ranges, and the ranges of the sizes
 --   Step       one step of the method
 --   Run        k steps, and the plan that they give
---   Record     the bytes of a plan
+--   Record     the bytes of a plan, and the plan that such bytes hold
 --   Refusals   the numbers of the refusals, and refusals 1 to 8
 --   Answers    the answer to a sheet, and the lent buffer afterwards
---   Listing    the text of an answer
+--   Listing    the text of an answer, and what writing it to lent bytes gives
 --   Margins    the statement of demand 3
 --   Promise    the three demands, as planning a sheet keeps them
 -- The rest holds these definitions against worked sheets:

@@ -78,5 +78,5 @@ fits t lent = leb (length t) (length lent)
 
 -- What writing a text to lent bytes gives: the bytes afterwards, and the length of what was written. A text that is longer than they are is not written.
 pub record Listed (t lent after : List ℕ) (result : ℕ) : Type 0 where
-  pub bytes : after ≡ cond (fits t lent) (t ++ drop (length t) lent) lent
-  pub long : result ≡ cond (fits t lent) (length t) 0
+  pub bytes-are : after ≡ cond (fits t lent) (t ++ drop (length t) lent) lent
+  pub length-is : result ≡ cond (fits t lent) (length t) 0

@@ -46,7 +46,7 @@ recorded r =
       residualTotals = tabulate m (λ i. signedAt 8 r (22 + 4 * n + 4 * m + 8 * i));
     }
 
--- do bytes begin with a record? Its sizes are at most the largest of a sheet, and all of it is there
+-- do bytes begin with all the figures of a record, of at most as many materials and limits as a sheet may have?
 unfoldable pub holdsRecord : List ℕ → Bool
 holdsRecord r =
     let n = unsignedAt 2 r 0 in

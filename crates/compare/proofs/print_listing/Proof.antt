@@ -6,7 +6,7 @@ use Rattle.compare.proofs.print_listing.Tie as tie
 
 part-write-all-end : tie.Need-part-write-all-end
 part-write-all-end c =
-    let within = listed-within (c .before .before .batchplan-listing .ensures) in
+    let within = listed-within (c .before .before .batchplan-listing .ensures .0) in
     search needs
 
 pub print-listing-spec : {M : Type 1} → statement M

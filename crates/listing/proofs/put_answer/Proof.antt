@@ -11,9 +11,9 @@ returns : tie.Need-returns
 unfolding textFrom outcome
 returns c =
     let called = c .before .before in
-    let told = called .before .before .before in
+    let told = called .before .before in
     let start = told .before .before .before .before in
-    begins-as (ap (λ a. textFrom (outcome a) (start .args .«record» .now)) (sym (told .answer .given .1))) (called .put-record .ensures)
+    begins-as (ap (λ a. textFrom (outcome a) (start .args .«record» .now)) (sym (told .enum-told .given .1))) (called .put-record .ensures)
 
 returns-2 : tie.Need-returns-2
 unfolding textFrom outcome
@@ -21,7 +21,7 @@ returns-2 c =
     let called = c .before .before in
     let told = called .before .before .before in
     let start = told .before .before .before .before in
-    begins-as (ap (λ a. textFrom (outcome a) (start .args .«record» .now)) (sym (told .answer2 .given .1))) (called .put-refusal .ensures)
+    begins-as (ap (λ a. textFrom (outcome a) (start .args .«record» .now)) (sym (told .answer .given .1))) (called .put-refusal .ensures)
 
 pub put-answer-spec : {M : Type 1} → statement M
 put-answer-spec =

@@ -27,7 +27,7 @@ module _ (c : tie.After-put-answer) where
 returns : tie.Need-returns
 returns c =
     let called = c .before .before in
-    not-listed (rw (sym (put called .1)) (omega arith))
+    (not-listed (rw (sym (put called .1)) (omega arith)), called .put-answer .ensures .short)
 
 part-put-bytes-end : tie.Need-part-put-bytes-end
 part-put-bytes-end c =
@@ -39,8 +39,10 @@ part-put-bytes-end c =
 returns-2 : tie.Need-returns-2
 returns-2 c =
     let copied = c .before .before in
-    let called = copied .before .before .before .before .before .before in
-    listed (puts-as (put called .0) (simp sub-zero at (copied .put-bytes .ensures))) (rw (sym (put called .1)) (omega arith))
+    let called = copied .before .before .before .before .before .before in (
+      listed (puts-as (put called .0) (simp sub-zero at (copied .put-bytes .ensures))) (rw (sym (put called .1)) (omega arith)),
+      called .put-answer .ensures .short,
+    )
 
 pub write-listing-spec : {M : Type 1} → statement M
 write-listing-spec =
