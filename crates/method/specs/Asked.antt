@@ -27,7 +27,7 @@ pub record StepAsked (f : Figures) (greatest : ℤ) (t : ℕ) (w : State) : Type
   pub more : t < f .steps
   pub bound : greatest ≡ pos (f .scale) *ℤ greatestCost (problemOf f)
 
--- `moved`: p times the residuals, and the multipliers before they are cut at 0
+-- `move_multipliers`: p times the residuals, and the multipliers before they are cut at 0
 pub record MoveAsked (m p : ℕ) (M g : ℕ → ℤ) : Type 0 where
   pub few : m ≤ 16
   pub numerator : p ≤ 1024

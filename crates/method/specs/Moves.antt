@@ -8,9 +8,13 @@ use Rattle.integer.specs.Order.{maxℤ}
 use Rattle.integer.specs.Vector.{at, tabulate}
 use Rattle.rules.specs.Step.{anyBelow}
 
--- the larger of 0 and M_i + p·g_i, of m limits
+-- the larger of 0 and M_i + p·g_i
+abbrev pub moveOf : ℕ → (ℕ → ℤ) → (ℕ → ℤ) → ℕ → ℤ
+moveOf p M g i = maxℤ (pos 0) (M i +ℤ pos p *ℤ g i)
+
+-- and this of m limits
 unfoldable pub movedBy : ℕ → ℕ → (ℕ → ℤ) → (ℕ → ℤ) → List ℤ
-movedBy m p M g = tabulate m (λ i. maxℤ (pos 0) (M i +ℤ pos p *ℤ g i))
+movedBy m p M g = tabulate m (moveOf p M g)
 
 -- is one of m multipliers above 1,073,741,824?
 unfoldable pub tooLarge : ℕ → List ℤ → Bool

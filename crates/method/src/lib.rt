@@ -1,20 +1,20 @@
 // The dual subgradient method with a constant step: one step on a state by value, and the run of k steps, or refusals 9 and 10.
-ghost use mathlib.Core.Bool.{cond};
+ghost use mathlib.Core.Bool.{false};
 ghost use mathlib.Core.Path.{_≡_};
 ghost use Prim.Native.Nat.{suc};
 ghost use lib.IntN.{_+ℤ_, _-ℤ_};
 ghost use mir.Syntax.{w32, w64};
 ghost use mir.Val.{SFits};
 ghost use Rattle.integer.specs.Order.{maxℤ};
-ghost use Rattle.integer.specs.Vector.{at, tabulate};
+ghost use Rattle.integer.specs.Vector.{at};
 ghost use Rattle.rules.specs.Run.{stateAfter, gapAfter};
 ghost use Rattle.rules.specs.Answers.{refusalAt, stepRefusal};
 ghost use Rattle.margins.specs.Accepted.{Accepted};
-ghost use Rattle.figures.specs.Padded.{padded};
 ghost use Rattle.figures.specs.Figures.{problemOf};
 ghost use Rattle.method.specs.Arrays.{arraysOf, HandsBack};
 ghost use Rattle.method.specs.Asked.{Reached, StepAsked, MoveAsked, TotalsFit};
-ghost use Rattle.method.specs.Moves.{movedBy, tooLarge};
+ghost use Rattle.method.specs.Moves.{moveOf, movedBy, tooLarge};
+ghost use Rattle.method.specs.Changed.{Changed};
 use dual::amounts;
 use dual::cheapest_value;
 use dual::cost_of_sums;
@@ -48,12 +48,6 @@ pub struct Stepped {
     pub state: State,
 }
 
-// The multipliers after a step. Where one diverged they are as before it.
-struct Move {
-    multipliers: [i32; 16],
-    diverged: bool,
-}
-
 // The larger of two.
 fn larger(x: i64, y: i64) -> i64
     ensures { λ r. ⌜ r ≡ maxℤ x y ⌝ }
@@ -61,36 +55,37 @@ fn larger(x: i64, y: i64) -> i64
     if x <= y { y } else { x }
 }
 
-// The move of the multipliers, all from the old ones.
-fn moved<'a>(
+// A multiplier after its move, before it is cut at 0.
+fn uncut(old: i64, change: i64) -> i64
+    requires { ⌜ SFits w64 (old +ℤ change) ⌝ }
+    ensures { λ r. ⌜ r ≡ old +ℤ change ⌝ }
+{
+    old + change
+}
+
+// The move of the multipliers in place, each from its old one. Where one diverged, which is the answer, the rest are not moved.
+fn move_multipliers<'a>(
     m: usize,
     numerator: usize,
-    multipliers: &'a [i32; 16],
+    multipliers: &'a mut [i32; 16],
     residuals: &'a [i32; 16],
-) -> Move
+) -> bool
     requires { ⌜ MoveAsked m numerator (at (now multipliers)) (at (now residuals)) ⌝ }
-    ensures { λ r. ⌜ r .diverged ≡ tooLarge m (movedBy m numerator (at (now (multipliers .entry))) (at (now (residuals .entry)))) ⌝ }
-    ensures { λ r. ⌜ r .multipliers ≡ cond (r .diverged) (now (multipliers .entry)) (padded 16 (movedBy m numerator (at (now (multipliers .entry))) (at (now (residuals .entry))))) ⌝ }
+    ensures { λ r. ⌜ r ≡ tooLarge m (movedBy m numerator (at (now (multipliers .entry))) (at (now (residuals .entry)))) ⌝ }
+    ensures { λ r. ⌜ (r ≡ false → Changed m (moveOf numerator (at (now (multipliers .entry))) (at (now (residuals .entry)))) (now (multipliers .entry)) (now (multipliers .exit))) ⌝ }
 {
     let p = numerator as i64;
-    let mut next: [i32; 16] = [0; 16];
     let mut i: usize = 0;
     while i < m {
         let old = multipliers[i] as i64;
-        let new = larger(0, old + p * (residuals[i] as i64));
+        let new = larger(0, uncut(old, p * (residuals[i] as i64)));
         if 1073741824 < new {
-            return Move {
-                multipliers: *multipliers,
-                diverged: true,
-            };
+            return true;
         }
-        next[i] = new as i32;
+        multipliers[i] = new as i32;
         i += 1;
     }
-    Move {
-        multipliers: next,
-        diverged: false,
-    }
+    false
 }
 
 // A sum with the amount of one step more.
@@ -101,18 +96,16 @@ fn plus_32(sum: i32, amount: i32) -> i32
     sum + amount
 }
 
-// The sums with the amounts of one step more.
-fn with_amounts<'a>(n: usize, sums: &'a [i32; 32], amounts: &'a [i16; 32]) -> [i32; 32]
+// The amounts of one step more, added to the sums in place.
+fn add_amounts<'a>(n: usize, sums: &'a mut [i32; 32], amounts: &'a [i16; 32])
     requires { ⌜ TotalsFit w32 32 n (at (now sums)) (at (now amounts)) ⌝ }
-    ensures { λ r. ⌜ r ≡ padded 32 (tabulate n (λ j. at (now (sums .entry)) j +ℤ at (now (amounts .entry)) j)) ⌝ }
+    ensures { λ _. ⌜ Changed n (λ j. at (now (sums .entry)) j +ℤ at (now (amounts .entry)) j) (now (sums .entry)) (now (sums .exit)) ⌝ }
 {
-    let mut after: [i32; 32] = [0; 32];
     let mut j: usize = 0;
     while j < n {
-        after[j] = plus_32(sums[j], amounts[j] as i32);
+        sums[j] = plus_32(sums[j], amounts[j] as i32);
         j += 1;
     }
-    after
 }
 
 // A residual total with the residual of one step more.
@@ -123,18 +116,16 @@ fn plus_64(total: i64, residual: i64) -> i64
     total + residual
 }
 
-// The residual totals with the residuals of one step more.
-fn with_residuals<'a>(m: usize, totals: &'a [i64; 16], residuals: &'a [i32; 16]) -> [i64; 16]
+// The residuals of one step more, added to the residual totals in place.
+fn add_residuals<'a>(m: usize, totals: &'a mut [i64; 16], residuals: &'a [i32; 16])
     requires { ⌜ TotalsFit w64 16 m (at (now totals)) (at (now residuals)) ⌝ }
-    ensures { λ r. ⌜ r ≡ padded 16 (tabulate m (λ i. at (now (totals .entry)) i +ℤ at (now (residuals .entry)) i)) ⌝ }
+    ensures { λ _. ⌜ Changed m (λ i. at (now (totals .entry)) i +ℤ at (now (residuals .entry)) i) (now (totals .entry)) (now (totals .exit)) ⌝ }
 {
-    let mut after: [i64; 16] = [0; 16];
     let mut i: usize = 0;
     while i < m {
-        after[i] = plus_64(totals[i], residuals[i] as i64);
+        totals[i] = plus_64(totals[i], residuals[i] as i64);
         i += 1;
     }
-    after
 }
 
 // A stop at step t, which leaves the state as it was.
@@ -150,21 +141,6 @@ fn stopped(state: State, t: usize, cause: Cause) -> Stepped
     }
 }
 
-// A step that is done, with the state after it.
-fn going(multipliers: [i32; 16], sums: [i32; 32], totals: [i64; 16], low: i64) -> Stepped
-    ensures { λ r. ⌜ r ≡ record { stop = Stop.Going; state = record { multipliers = multipliers; sums = sums; totals = totals; low = low } } ⌝ }
-{
-    Stepped {
-        stop: Stop::Going,
-        state: State {
-            multipliers: multipliers,
-            sums: sums,
-            totals: totals,
-            low: low,
-        },
-    }
-}
-
 impl State {
     // Step t, with D times the greatest cost.
     pub fn step(self, f: Figures, greatest: i64, t: usize) -> Stepped
@@ -173,7 +149,7 @@ impl State {
     {
         let n = f.materials;
         let m = f.limits;
-        let mult = self.multipliers;
+        let mut w = self;
         let x = amounts(
             n,
             m,
@@ -182,25 +158,25 @@ impl State {
             &f.least,
             &f.most,
             &f.coefficient,
-            &mult,
+            &w.multipliers,
         );
         let g = residuals(n, m, &f.coefficient, &f.bound, &x);
-        let v = dual_value(n, m, f.scale, &f.cost, &mult, &x, &g);
+        let v = dual_value(n, m, f.scale, &f.cost, &w.multipliers, &x, &g);
         if greatest < v {
             return stopped(self, t, Cause::Infeasible);
         }
-        let next = moved(m, f.numerator, &mult, &g);
-        if next.diverged {
+        let diverged = move_multipliers(m, f.numerator, &mut w.multipliers, &g);
+        if diverged {
             return stopped(self, t, Cause::Diverged);
         }
-        let multipliers = next.multipliers;
-        let old_sums = self.sums;
-        let old_totals = self.totals;
-        let old_low = self.low;
-        let sums = with_amounts(n, &old_sums, &x);
-        let totals = with_residuals(m, &old_totals, &g);
-        let low = larger(old_low, v);
-        going(multipliers, sums, totals, low)
+        add_amounts(n, &mut w.sums, &x);
+        add_residuals(m, &mut w.totals, &g);
+        let old_low = w.low;
+        w.low = larger(old_low, v);
+        Stepped {
+            stop: Stop::Going,
+            state: w,
+        }
     }
 }
 
@@ -224,21 +200,22 @@ pub fn run(f: Figures) -> Stepped
 {
     let k = f.steps;
     let greatest = greatest_value(f.materials, f.scale, &f.cost, &f.least, &f.most);
-    let mut w = start(f);
+    let first = start(f);
+    let mut r = Stepped {
+        stop: Stop::Going,
+        state: first,
+    };
     let mut t: usize = 0;
     while t < k {
-        let r = w.step(f, greatest, t);
+        let w = r.state;
+        r = w.step(f, greatest, t);
         let stop = r.stop;
         let Stop::Going = stop else {
             return r;
         };
-        w = r.state;
         t += 1;
     }
-    Stepped {
-        stop: Stop::Going,
-        state: w,
-    }
+    r
 }
 
 // D times the cost of the sums, less k times low. It may be negative.

@@ -1,4 +1,4 @@
--- Before step t, no step was refused and the state is that after t steps.
+-- Before step t, no step was refused, and what the last one handed back is the state after t steps.
 use mathlib.Core.Path.{_≡_, refl, _∙_}
 use Prim.Native.Nat.{_-_, zero-le}
 use native.Mathlib.Omega.{arith}
@@ -11,6 +11,7 @@ use Rattle.rules.specs.Step.{greatestCost}
 use Rattle.rules.specs.Answers.{stepRefusal}
 use Rattle.laws.specs.FirstPlace.{first-start}
 use Rattle.figures.specs.Figures.{problemOf}
+use Rattle.method.specs.declared.Stop.the-variants.{Going}
 use Rattle.method.specs.Asked.{Reached}
 use Rattle.method.proofs.Magnitudes.{greatest-fits}
 use Rattle.method.proofs.Stops.{hands-on, still-going, next-state, hands-state}
@@ -18,10 +19,10 @@ use Rattle.method.proofs.run.Statement.{statement}
 use Rattle.method.proofs.run.Tie as tie
 
 abbrev Inv-loop : tie.InvT-loop
-Inv-loop f k greatest w₀ t₀ w t = Reached f t w
+Inv-loop f k greatest r₀ t₀ r t = (r .stop ≡ Going) × Reached f t (r .state)
 
 abbrev μ-loop : tie.MeasureT-loop
-μ-loop f k greatest w₀ t₀ w t = k - t
+μ-loop f k greatest r₀ t₀ r t = k - t
 
 greatest-value-requires : tie.Need-greatest-value-requires Inv-loop μ-loop
 greatest-value-requires c κs =
@@ -34,41 +35,43 @@ start-requires c κs = c .before .before .before .before .before .pre
 loop-holds : tie.Need-loop-holds Inv-loop μ-loop
 unfolding stepRefusal
 loop-holds c =
-    record { accepted = c .before .before .before .before .before .before .pre; few = zero-le; going = first-start _; state = c .start .ensures }
+    (refl, record { accepted = c .before .before .before .before .before .before .pre; few = zero-le; going = first-start _; state = c .start .ensures })
 
 step-requires : tie.Need-step-requires Inv-loop μ-loop
 unfolding greatestCost costOf
 step-requires c κs =
-    let found = c .before .before .before in
+    let found = c .before .before .before .before in
     let fits : SFits w64 (found .greatest-value .result) = search needs in
-    record { reached = c .before .loop .inv; more = omega arith; bound = toZ-ofZ fits ∙ found .greatest-value .ensures }
+    record { reached = c .before .before .loop .inv .1; more = omega arith; bound = toZ-ofZ fits ∙ found .greatest-value .ensures }
 
 returns : tie.Need-returns Inv-loop μ-loop
 returns c =
     let stepped = c .before .before in
-    let loop = stepped .before .before in
+    let loop = stepped .before .before .before in
     let f = loop .before .before .before .before .before .before .before .args .t1 in
-    hands-on (problemOf f) (loop .loop .inv .going) (stepped .step .ensures) (f .steps) (omega arith) (c .enum-told2 .given .1)
+    hands-on (problemOf f) (loop .loop .inv .1 .going) (stepped .step .ensures) (f .steps) (omega arith) (c .enum-told2 .given .1)
 
 loop-again : tie.Need-loop-again Inv-loop μ-loop
 loop-again c =
-    let stepped = c .before .before .before in
-    let reached = stepped .before .before .loop .inv in
-    let P = problemOf (stepped .before .before .before .before .before .before .before .before .before .args .t1) in
-    let going = c .before .enum-told .given .1 in
-    record {
-      accepted = reached .accepted;
-      few = omega arith;
-      going = still-going P (reached .going) (stepped .step .ensures) going;
-      state = next-state P (reached .going) (stepped .step .ensures) going;
-    }
+    let stepped = c .before .before in
+    let reached = stepped .before .before .before .loop .inv .1 in
+    let P = problemOf (stepped .before .before .before .before .before .before .before .before .before .before .args .t1) in
+    let going = c .enum-told .given .1 in (
+      going,
+      record {
+        accepted = reached .accepted;
+        few = omega arith;
+        going = still-going P (reached .going) (stepped .step .ensures) going;
+        state = next-state P (reached .going) (stepped .step .ensures) going;
+      },
+    )
 
 returns-2 : tie.Need-returns-2 Inv-loop μ-loop
 returns-2 c =
     let loop = c .before .loop in
     let f = c .before .before .before .before .before .before .before .before .args .t1 in
-    let all : loop .t ≡ f .steps = omega (arith, loop .inv .few) in
-    hands-state (problemOf f) (f .steps) refl (rw all at (loop .inv .going)) (rw all at (loop .inv .state))
+    let all : loop .t ≡ f .steps = omega (arith, loop .inv .1 .few) in
+    hands-state (problemOf f) (f .steps) (loop .inv .0) (rw all at (loop .inv .1 .going)) (rw all at (loop .inv .1 .state))
 
 pub run-spec : {M : Type 1} → statement M
 run-spec =

@@ -1,6 +1,6 @@
 -- Each call gives what step t works out, and what comes back is what the step hands back.
-use mathlib.Core.Path.{_≡_, sym, subst, transport, _∙_}
-use mathlib.Core.Bool.{false, cond}
+use mathlib.Core.Path.{_≡_, refl, sym, subst, transport, _∙_}
+use mathlib.Core.Bool.{false}
 use mathlib.Core.List.{List}
 use Prim.Native.Nat.{ℕ, suc}
 use lib.IntN.{ℤ, pos, _+ℤ_, _*ℤ_}
@@ -25,7 +25,7 @@ use Rattle.figures.specs.Figures.{problemOf}
 use Rattle.dual.specs.Given.{costsOnly, valueFrom}
 use Rattle.dual.specs.Asked.{AmountsAsked, ResidualsAsked, DualValueAsked}
 use Rattle.method.specs.Arrays.{arraysOf}
-use Rattle.method.specs.Reads.{multipliers-read, sums-read, totals-read}
+use Rattle.method.specs.Reads.{multipliers-read, sums-read, totals-read, multipliers-changed, sums-changed, totals-changed}
 use Rattle.method.specs.Asked.{MoveAsked, TotalsFit}
 use Rattle.method.specs.Moves.{movedBy, tooLarge}
 use Rattle.method.proofs.Magnitudes.{amounts-asked, residuals-asked, dual-value-asked, move-asked, sums-fit, totals-fit}
@@ -107,14 +107,14 @@ module _ (c : tie.After-residuals) where
 -- ---- the dual value
 dual-value-requires : tie.Need-dual-value-requires
 dual-value-requires c κs =
-    let g = c .before .before .before .before .before in
+    let g = c .before .before .before .before .before .before in
     let s = s-g g in
     let fits = dual-value-asked (f s) (f s .steps) (accepted s) (t s) (large s) in
     transport (λ k. DualValueAsked (costsOnly (f s .materials) (f s .limits) (f s .scale) (f s .cost)) (sym (M-is s) k) (sym (x-reads (at-x g)) k) (sym (g-reads g) k)) fits
 
 module _ (c : tie.After-dual-value) where
   abbrev at-g : tie.After-residuals
-  at-g = c .before .before .before .before .before .before
+  at-g = c .before .before .before .before .before .before .before
 
   abbrev s-v : tie.Start
   s-v = s-g at-g
@@ -142,14 +142,14 @@ returns c =
     hands-stop (P s) (suc (t s)) _ (c .stopped .ensures) (refused-9 (P s) (t s) (sym (test-9 v) ∙ c .before .if1 .taken)) (state-is s)
 
 -- ---- the move
-moved-requires : tie.Need-moved-requires
-moved-requires c κs =
+move-multipliers-requires : tie.Need-move-multipliers-requires
+move-multipliers-requires c κs =
     let v = c .before .before .before in
     let s = s-v v in
     let fits = move-asked (f s) (f s .steps) (accepted s) (t s) (large s) in
     transport (λ k. MoveAsked (f s .limits) (f s .numerator) (sym (M-is s) k) (sym (g-reads (at-g v)) k)) fits
 
-module _ (c : tie.After-moved) where
+module _ (c : tie.After-move-multipliers) where
   abbrev at-v : tie.After-dual-value
   at-v = c .before .before .before .before
 
@@ -167,9 +167,9 @@ module _ (c : tie.After-moved) where
       (λ k. movedBy (P s-m .limits) (P s-m .numerator) (M-is s-m k) (g-reads (at-g at-v) k)) ∙ moves-are (P s-m) (t s-m)
 
   -- rule 4 is the test
-  test-10 : c .moved .result .diverged ≡ diverged (P s-m) (stepAt (P s-m) (t s-m))
+  test-10 : c .move-multipliers .result ≡ diverged (P s-m) (stepAt (P s-m) (t s-m))
   unfolding diverged tooLarge
-  test-10 = c .moved .ensures .0 ∙ (λ k. tooLarge (P s-m .limits) (moves-is k))
+  test-10 = c .move-multipliers .ensures .0 ∙ (λ k. tooLarge (P s-m .limits) (moves-is k))
 
 returns-2 : tie.Need-returns-2
 unfolding numbered numberOf
@@ -181,7 +181,7 @@ returns-2 c =
 
 -- ---- the totals
 module _ (c : tie.Else2) where
-  abbrev at-m : tie.After-moved
+  abbrev at-m : tie.After-move-multipliers
   at-m = c .before
 
   abbrev s-e : tie.Start
@@ -196,35 +196,30 @@ module _ (c : tie.Else2) where
   converges : diverged (P s-e) (stepAt (P s-e) (t s-e)) ≡ false
   converges = sym (test-10 at-m) ∙ c .if2 .left
 
-  multipliers-are : at-m .moved .result .multipliers ≡ padded 16 (stepAt (P s-e) (t s-e) .multipliers)
-  multipliers-are =
-      at-m .moved .ensures .1
-      ∙ (λ k. cond (c .if2 .left k) (s-e .args .self .multipliers) (padded 16 (moves-is at-m k)))
-
-with-amounts-requires : tie.Need-with-amounts-requires
-with-amounts-requires c κs =
-    let e = c .before .before .before .before .before .before in
+add-amounts-requires : tie.Need-add-amounts-requires
+add-amounts-requires c κs =
+    let e = c .before .before in
     let s = s-e e in
     let fits = sums-fit (f s) (f s .steps) (accepted s) (t s) (large s) in
     transport (λ k. TotalsFit w32 32 (f s .materials) (sym (sums-are s) k) (sym (x-reads (x-e e)) k)) fits
 
-with-residuals-requires : tie.Need-with-residuals-requires
-with-residuals-requires c κs =
-    let e = c .before .before .before .before .before .before .before .before .before in
+add-residuals-requires : tie.Need-add-residuals-requires
+add-residuals-requires c κs =
+    let e = c .before .before .before .before .before in
     let s = s-e e in
     let fits = totals-fit (f s) (f s .steps) (accepted s) (t s) (large s) in
     transport (λ k. TotalsFit w64 16 (f s .limits) (sym (totals-are s) k) (sym (g-reads (g-e e)) k)) fits
 
 -- ---- the state after the step
 module _ (c : tie.After-larger) where
-  abbrev totals-of : tie.After-with-residuals
-  totals-of = c .before
+  abbrev totals-of : tie.After-add-residuals
+  totals-of = c .before .before
 
-  abbrev sums-of : tie.After-with-amounts
+  abbrev sums-of : tie.After-add-amounts
   sums-of = totals-of .before .before .before
 
   abbrev going : tie.Else2
-  going = sums-of .before .before .before .before .before .before .before
+  going = sums-of .before .before .before
 
   abbrev s-l : tie.Start
   s-l = s-e going
@@ -240,20 +235,17 @@ module _ (c : tie.After-larger) where
       toZ-ofZ fits ∙ (simp (toZ-ofZ low-fits, toZ-ofZ (v-fits v)) at (c .larger .ensures)) ∙ (λ k. maxℤ (state-is s-l k .low) (v-is v k))
 
 returns-3 : tie.Need-returns-3
-unfolding arraysOf stateAfter next stepAt
-returns-3 c =
-    let l = c .before in
+unfolding arraysOf stateAfter next stepAt movedBy
+returns-3 l =
     let e = going l in
     let s = s-l l in
-    let told = c .going .ensures in
-    hands-state (P s) (suc (t s)) (λ k. told k .stop) (not-refused (P s) (t s) (feasible (at-m e)) (converges e))
-    ((λ k. told k .state)
-    ∙ (λ k. record {
-      multipliers = multipliers-are e k;
-      sums = (sums-of l .with-amounts .ensures ∙ (λ i. padded 32 (tabulate (P s .materials) (λ j. sums-are s i j +ℤ x-reads (x-e e) i j)))) k;
-      totals = (totals-of l .with-residuals .ensures ∙ (λ i. padded 16 (tabulate (P s .limits) (λ j. totals-are s i j +ℤ g-reads (g-e e) i j)))) k;
+    hands-state (P s) (suc (t s)) refl (not-refused (P s) (t s) (feasible (at-m e)) (converges e))
+    (λ k. record {
+      multipliers = (multipliers-changed (accepted s) (t s) (λ i. state-is s i .multipliers) (at-m e .move-multipliers .ensures .1 (e .if2 .left)) ∙ (λ i. padded 16 (moves-is (at-m e) i))) k;
+      sums = (sums-changed (accepted s) (t s) (λ i. state-is s i .sums) (sums-of l .add-amounts .ensures) ∙ (λ i. padded 32 (tabulate (P s .materials) (λ j. sums-are s i j +ℤ x-reads (x-e e) i j)))) k;
+      totals = (totals-changed (accepted s) (t s) (λ i. state-is s i .totals) (totals-of l .add-residuals .ensures) ∙ (λ i. padded 16 (tabulate (P s .limits) (λ j. totals-are s i j +ℤ g-reads (g-e e) i j)))) k;
       low = low-is l k;
-    }))
+    })
 
 pub step-spec : {M : Type 1} → statement M
 step-spec =
@@ -264,11 +256,10 @@ step-spec =
     dual-value-requires
     (λ c κs. search needs)
     returns
-    moved-requires
+    move-multipliers-requires
     (λ c κs. search needs)
     returns-2
-    with-amounts-requires
-    with-residuals-requires
-    (λ c κs. search needs)
+    add-amounts-requires
+    add-residuals-requires
     (λ c κs. search needs)
     returns-3)

@@ -1,8 +1,9 @@
 -- After i turns the first i places hold their moved multipliers, none of them too large.
-use mathlib.Core.Path.{_≡_, refl, sym, ap, subst, _∙_}
-use mathlib.Core.Bool.{Bool, false, not}
+use mathlib.Core.Path.{_≡_, sym, ap, subst, _∙_}
+use mathlib.Core.Bool.{Bool, false, not, true≢false}
 use mathlib.Core.List.{List}
 use Prim.Native.Nat.{ℕ, _-_, _≤_, _<_}
+use native.Mathlib.Nat.{le-refl}
 use native.Mathlib.Omega.{arith}
 use lib.Dec.{T}
 use lib.IntN.{ℤ, pos, _+ℤ_, _*ℤ_}
@@ -15,11 +16,11 @@ use Rattle.integer.specs.Order.{≤ℤ-trans, maxℤ, max-left}
 use Rattle.integer.specs.Range.{bnd-between, bnd-sfits, wider, small-fits, small-is}
 use Rattle.integer.specs.Vector.{at, at-tabulate}
 use Rattle.rules.specs.Step.{anyBelow}
-use Rattle.figures.specs.Padded.{filled, fill-start, fill-next, fill-end}
 use Rattle.laws.specs.Places.{any-start, any-more, any-found}
-use Rattle.method.specs.Moves.{movedBy, tooLarge}
-use Rattle.method.proofs.moved.Statement.{statement}
-use Rattle.method.proofs.moved.Tie as tie
+use Rattle.method.specs.Moves.{moveOf, movedBy, tooLarge}
+use Rattle.method.specs.Changed.{Changed, changed-start, changed-next, changed-end}
+use Rattle.method.proofs.move_multipliers.Statement.{statement}
+use Rattle.method.proofs.move_multipliers.Tie as tie
 
 -- is the multiplier of limit i too large?
 abbrev above : List ℤ → ℕ → Bool
@@ -28,7 +29,7 @@ above multipliers i = ltZ (pos 1073741824) (at multipliers i)
 module _ (m p : ℕ) (multipliers residuals : List ℤ) where
   -- the multiplier of limit i after the move, and all of them
   abbrev after : ℕ → ℤ
-  after i = maxℤ (pos 0) (at multipliers i +ℤ pos p *ℤ at residuals i)
+  after = moveOf p (at multipliers) (at residuals)
 
   abbrev moves : List ℤ
   moves = movedBy m p (at multipliers) (at residuals)
@@ -44,30 +45,30 @@ module _ (m p : ℕ) (multipliers residuals : List ℤ) where
       let top : after i ≤ℤ pos 1073741824 = ltZ-no (subst (λ b. T (not b)) (sym test) tt) in
       bnd-sfits {a = 1073741824} tt (bnd-between (≤ℤ-trans (leZ-yes tt) (max-left (pos 0) _)) top)
 
-  record Turn (next : List ℤ) (i : ℕ) : Type 0 where
+  record Turn (now : List ℤ) (i : ℕ) : Type 0 where
     within : i ≤ m
     small : anyBelow i (above moves) ≡ false
-    done : next ≡ filled 16 after i
+    done : Changed i after multipliers now
 
 abbrev Inv-loop : tie.InvT-loop
-Inv-loop m numerator multipliers residuals p next₀ i₀ next i = Turn m numerator multipliers residuals next i
+Inv-loop m numerator multipliers₀ residuals p i₀ multipliers i = Turn m numerator multipliers₀ residuals multipliers i
 
 abbrev μ-loop : tie.MeasureT-loop
-μ-loop m numerator multipliers residuals p next₀ i₀ next i = m - i
+μ-loop m numerator multipliers₀ residuals p i₀ multipliers i = m - i
 
 cast-p : tie.Need-cast-p Inv-loop μ-loop
 cast-p c = small-fits {N = 1024} tt (c .pre .numerator)
 
 loop-holds : tie.Need-loop-holds Inv-loop μ-loop
-loop-holds c = record { within = omega arith; small = any-start _; done = sym (fill-start 16 _) }
+loop-holds c = record { within = omega arith; small = any-start _; done = changed-start }
 
 cast-old : tie.Need-cast-old Inv-loop μ-loop
 cast-old c =
-    let fits : SFits w32 (at (c .before .before .before .args .multipliers .now) (c .before .before .loop .i)) = search needs in
+    let fits : SFits w32 (at (c .before .before .loop .multipliers) (c .before .before .loop .i)) = search needs in
     simp (toZ-ofZ fits) (wider {v = w32} {w = w64} tt fits)
 
 -- in a turn, with both elements read
-module _ (c : tie.After-larger-arg Inv-loop μ-loop) where
+module _ (c : tie.After-uncut-arg Inv-loop μ-loop) where
   abbrev s : tie.Start Inv-loop μ-loop
   s = c .before .before .before .before
 
@@ -83,8 +84,14 @@ module _ (c : tie.After-larger-arg Inv-loop μ-loop) where
   here : i < s .args .m
   here = omega arith
 
+  -- the multiplier is as at entry
+  multiplier-is : at (c .before .before .before .loop .multipliers) i ≡ multiplier
+  multiplier-is = c .before .before .before .loop .inv .done .past i (le-refl i)
+
   multiplier-fits : SFits w32 multiplier
-  multiplier-fits = search needs
+  multiplier-fits =
+      let read : SFits w32 (at (c .before .before .before .loop .multipliers) i) = search needs in
+      rw multiplier-is at read
 
   residual-fits : SFits w32 residual
   residual-fits = search needs
@@ -104,22 +111,22 @@ module _ (c : tie.After-larger-arg Inv-loop μ-loop) where
   uncut-fits : SFits w64 (multiplier +ℤ pos (s .args .numerator) *ℤ residual)
   uncut-fits = s .pre .uncut i here
 
-cast-larger : tie.Need-cast-larger Inv-loop μ-loop
-cast-larger c = simp (toZ-ofZ (residual-fits c)) (residual-wide c)
+cast-uncut : tie.Need-cast-uncut Inv-loop μ-loop
+cast-uncut c = simp (toZ-ofZ (residual-fits c)) (residual-wide c)
 
-mul-larger-2 : tie.Need-mul-larger-2 Inv-loop μ-loop
-mul-larger-2 c = simp (toZ-ofZ (residual-fits c), toZ-ofZ (residual-wide c), numerator-is c) (scaled-fits c)
+mul-uncut-2 : tie.Need-mul-uncut-2 Inv-loop μ-loop
+mul-uncut-2 c = simp (toZ-ofZ (residual-fits c), toZ-ofZ (residual-wide c), numerator-is c) (scaled-fits c)
 
-add-larger : tie.Need-add-larger Inv-loop μ-loop
-add-larger c =
+uncut-requires : tie.Need-uncut-requires Inv-loop μ-loop
+uncut-requires c κs =
     simp
-    (toZ-ofZ (multiplier-fits c), toZ-ofZ (multiplier-wide c), toZ-ofZ (residual-fits c), toZ-ofZ (residual-wide c), numerator-is c, toZ-ofZ (scaled-fits c))
+    (multiplier-is c, toZ-ofZ (multiplier-fits c), toZ-ofZ (multiplier-wide c), toZ-ofZ (residual-fits c), toZ-ofZ (residual-wide c), numerator-is c, toZ-ofZ (scaled-fits c))
     (uncut-fits c)
 
 -- with the moved multiplier
 module _ (c : tie.After-larger Inv-loop μ-loop) where
-  abbrev turn : tie.After-larger-arg Inv-loop μ-loop
-  turn = c .before
+  abbrev turn : tie.After-uncut-arg Inv-loop μ-loop
+  turn = c .before .before
 
   abbrev afterwards : ℕ → ℤ
   afterwards = after (s turn .args .m) (s turn .args .numerator) (s turn .args .multipliers .now) (s turn .args .residuals .now)
@@ -127,13 +134,18 @@ module _ (c : tie.After-larger Inv-loop μ-loop) where
   abbrev all : List ℤ
   all = moves (s turn .args .m) (s turn .args .numerator) (s turn .args .multipliers .now) (s turn .args .residuals .now)
 
+  uncut-is : toZ w64 (ofZ w64 (c .before .uncut .result)) ≡ multiplier turn +ℤ pos (s turn .args .numerator) *ℤ residual turn
+  uncut-is =
+      let fits : SFits w64 (c .before .uncut .result) = search needs in
+      toZ-ofZ fits
+      ∙ (simp
+      (multiplier-is turn, toZ-ofZ (multiplier-fits turn), toZ-ofZ (multiplier-wide turn), toZ-ofZ (residual-fits turn), toZ-ofZ (residual-wide turn), numerator-is turn, toZ-ofZ (scaled-fits turn))
+      at (c .before .uncut .ensures))
+
   move-is : toZ w64 (ofZ w64 (c .larger .result)) ≡ afterwards (i turn)
   move-is =
       let fits : SFits w64 (c .larger .result) = search needs in
-      toZ-ofZ fits
-      ∙ (simp
-      (toZ-ofZ (multiplier-fits turn), toZ-ofZ (multiplier-wide turn), toZ-ofZ (residual-fits turn), toZ-ofZ (residual-wide turn), numerator-is turn, toZ-ofZ (scaled-fits turn), toZ-ofZ (uncut-fits turn))
-      at (c .larger .ensures))
+      toZ-ofZ fits ∙ c .larger .ensures ∙ ap (maxℤ (pos 0)) uncut-is
 
   test-is : ltZ (pos 1073741824) (toZ w64 (ofZ w64 (c .larger .result))) ≡ above all (i turn)
   test-is =
@@ -143,8 +155,8 @@ module _ (c : tie.After-larger Inv-loop μ-loop) where
 returns : tie.Need-returns Inv-loop μ-loop
 unfolding tooLarge
 returns c =
-    let a = c .before .before in
-    (sym (any-found (above (all a)) _ (here (turn a)) (sym (test-is a) ∙ c .before .if1 .taken)), refl)
+    let a = c .before in
+    (sym (any-found (above (all a)) _ (here (turn a)) (sym (test-is a) ∙ c .if1 .taken)), λ no. absurd (true≢false no))
 
 -- one that is not too large
 module _ (c : tie.Else1 Inv-loop μ-loop) where
@@ -156,8 +168,8 @@ module _ (c : tie.Else1 Inv-loop μ-loop) where
       let t = turn (c .before) in
       move-fits (s t .args .m) (s t .args .numerator) (s t .args .multipliers .now) (s t .args .residuals .now) (i t) (here t) small-here
 
-cast-next : tie.Need-cast-next Inv-loop μ-loop
-cast-next c = simp (move-is (c .before)) (fits-here c)
+cast-multipliers : tie.Need-cast-multipliers Inv-loop μ-loop
+cast-multipliers c = simp (move-is (c .before)) (fits-here c)
 
 loop-again : tie.Need-loop-again Inv-loop μ-loop
 loop-again c =
@@ -166,7 +178,7 @@ loop-again c =
     record {
       within = omega arith;
       small = any-more _ (loop .inv .small) (small-here c);
-      done = fill-next 16 _ (omega (arith, s t .pre .few, here t)) (loop .inv .done) (simp (move-is (c .before), toZ-ofZ (fits-here c)));
+      done = changed-next (loop .inv .done) (simp (move-is (c .before), toZ-ofZ (fits-here c)));
     }
 
 returns-2 : tie.Need-returns-2 Inv-loop μ-loop
@@ -174,10 +186,10 @@ unfolding tooLarge movedBy
 returns-2 c =
     let loop = c .before .loop in
     let all-done : loop .i ≡ c .before .before .args .m = omega arith in
-    (sym (rw all-done at (loop .inv .small)), fill-end 16 _ all-done (loop .inv .done))
+    (sym (rw all-done at (loop .inv .small)), λ _. changed-end all-done (loop .inv .done))
 
-pub moved-spec : {M : Type 1} → statement M
-moved-spec =
+pub move-multipliers-spec : {M : Type 1} → statement M
+move-multipliers-spec =
     tie.close
     (tie.spec
     Inv-loop
@@ -189,12 +201,12 @@ moved-spec =
     cast-old
     (search needs)
     (search needs)
-    cast-larger
-    mul-larger-2
-    add-larger
+    cast-uncut
+    mul-uncut-2
+    uncut-requires
     (λ c κs. search needs)
     returns
-    cast-next
+    cast-multipliers
     (search needs)
     (search needs)
     (search needs)
