@@ -1,24 +1,21 @@
 -- Below 0, −1 − v is how far v is below −1, and so 2^64 − 1 less that is v's bits. From 0 on v is its own bits.
-use Prim.Native.Nat.{ℕ, suc, _-_, _<_}
-use mathlib.Core.Path.{_≡_, refl, ap}
+use Prim.Native.Nat.{ℕ, _-_, _<_}
+use mathlib.Core.Path.{_≡_, refl}
 use mathlib.Core.Bool.{true, false}
 use native.Mathlib.Omega.{arith}
 use lib.Dec.{T}
-use lib.IntN.{ℤ, pos, negsuc, natAbs, _-ℤ_}
+use lib.IntN.{ℤ, pos, negsuc, natAbs}
 use lib.Signed.{ltZ, mag, nonNeg}
 use mir.Syntax.{w64}
 use mir.Val.{SFits, Fits}
 use mir.Facts.{toZ-ofZ, toZ-pos}
-use borrow.Author.Tests.{ltb-true, le-ltb}
+use borrow.Author.Tests.{ltb-true}
+use Rattle.integer.specs.Range.{below-zero}
 use Rattle.fields.specs.Number.{bits64}
 use Rattle.fields.proofs.bits.Statement.{statement}
 use Rattle.fields.proofs.bits.Tie as tie
 
 -- what is below 0
-below : (z : ℤ) → ltZ z (pos 0) ≡ true → negsuc 0 -ℤ z ≡ pos (mag z)
-below (pos n) h = let g : n < 0 = ltb-true n 0 h in absurd (omega arith)
-below (negsuc n) h = simp (le-ltb (suc n) 1 (omega arith)) (ap pos (omega arith))
-
 below-bits : (z : ℤ) → ltZ z (pos 0) ≡ true → 18446744073709551615 - mag z ≡ bits64 z
 unfolding bits64
 below-bits (pos n) h = let g : n < 0 = ltb-true n 0 h in absurd (omega arith)
@@ -46,20 +43,20 @@ module _ (c : tie.Then1) where
   test = simp (toZ-ofZ fits) at (c .if1 .taken)
 
 sub-result : tie.Need-sub-result
-sub-result c = simp (toZ-ofZ (fits c), below (v c) (test c)) (record { sfits = fits c .sfits })
+sub-result c = simp (toZ-ofZ (fits c), below-zero (v c) (test c)) (record { sfits = fits c .sfits })
 
 cast-result : tie.Need-cast-result
 cast-result c =
-    simp (toZ-ofZ (fits c), below (v c) (test c), toZ-pos w64 (fits c .sfits))
+    simp (toZ-ofZ (fits c), below-zero (v c) (test c), toZ-pos w64 (fits c .sfits))
     (tt, record { fits = omega (arith, fits c .sfits) })
 
 sub-result-2 : tie.Need-sub-result-2
 sub-result-2 c =
-    simp (toZ-ofZ (fits c), below (v c) (test c), toZ-pos w64 (fits c .sfits)) (omega (arith, fits c .sfits))
+    simp (toZ-ofZ (fits c), below-zero (v c) (test c), toZ-pos w64 (fits c .sfits)) (omega (arith, fits c .sfits))
 
 returns : tie.Need-returns
 returns c =
-    simp (toZ-ofZ (fits c), below (v c) (test c), toZ-pos w64 (fits c .sfits)) (below-bits (v c) (test c))
+    simp (toZ-ofZ (fits c), below-zero (v c) (test c), toZ-pos w64 (fits c .sfits)) (below-bits (v c) (test c))
 
 module _ (c : tie.Else1) where
   is-natural : Natural (c .before .args .v)

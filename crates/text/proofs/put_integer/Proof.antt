@@ -1,27 +1,24 @@
 -- Below 0, −1 − v is `mag v`, and the digits after the sign are those of one more. From 0 on, v is its own magnitude.
-use Prim.Native.Nat.{suc, _+_, _<_}
-use mathlib.Core.Path.{_≡_, refl, ap, _∙_}
+use Prim.Native.Nat.{_+_, _<_}
+use mathlib.Core.Path.{_≡_, refl, _∙_}
 use mathlib.Core.Bool.{true, false}
 use mathlib.Core.List.{[], _∷_, _++_}
 use native.Mathlib.Numerals.{add-one}
 use native.Mathlib.Omega.{arith}
 use borrow.Author.Needs.{needs}
-use borrow.Author.Tests.{ltb-true, le-ltb}
+use borrow.Author.Tests.{ltb-true}
 use lib.IntN.{ℤ, pos, negsuc, _-ℤ_}
 use lib.Signed.{ltZ, mag}
 use mir.Syntax.{w64}
 use mir.Val.{SFits, toZ, ofZ}
 use mir.Facts.{toZ-ofZ, toZ-pos}
+use Rattle.integer.specs.Range.{below-zero}
 use Rattle.rules.specs.Listing.{text, decimal}
 use Rattle.text.specs.Laws.{then}
 use Rattle.text.proofs.put_integer.Statement.{statement}
 use Rattle.text.proofs.put_integer.Tie as tie
 
 -- what is below 0
-below : (z : ℤ) → ltZ z (pos 0) ≡ true → negsuc 0 -ℤ z ≡ pos (mag z)
-below (pos n) h = let g : n < 0 = ltb-true n 0 h in absurd (omega arith)
-below (negsuc n) h = simp (le-ltb (suc n) 1 (omega arith)) (ap pos (omega arith))
-
 below-decimal : (z : ℤ) → ltZ z (pos 0) ≡ true → (45 ∷ []) ++ decimal (pos (mag z + 1)) ≡ decimal z
 unfolding decimal text
 below-decimal (pos n) h = let g : n < 0 = ltb-true n 0 h in absurd (omega arith)
@@ -45,7 +42,7 @@ module _ (c : tie.Then1) where
 
   -- −1 − v, and what its bits stand for
   less : negsuc 0 -ℤ toZ w64 (ofZ w64 v) ≡ pos (mag v)
-  less = simp (toZ-ofZ fits) (below v negative)
+  less = simp (toZ-ofZ fits) (below-zero v negative)
 
   less-bits : toZ w64 (ofZ w64 (negsuc 0 -ℤ toZ w64 (ofZ w64 v))) ≡ pos (mag v)
   less-bits = rw less (toZ-pos w64 (fits .sfits))
