@@ -6,7 +6,7 @@ use Prim.Native.Nat.{ℕ}
 use native.Mathlib.Nat.{le-refl}
 use native.Mathlib.Omega.{arith}
 use lib.ListN.{length, drop}
-use Rattle.integer.specs.Range.{bnd-sfits}
+use Rattle.proof_integer.specs.Range.{bnd-sfits}
 use Rattle.rules.specs.declared.Answer.{Answer}
 use Rattle.rules.specs.Problem.{Problem}
 use Rattle.rules.specs.Run.{planAfter}
@@ -15,12 +15,12 @@ use Rattle.rules.specs.Refusals.{Numbered, refusalBeforeSteps}
 use Rattle.rules.specs.Answers.{stepRefusal, refusal, planOf, outcome, outcomeOf, answer, bufferOf, bufferAfter}
 use Rattle.rules.specs.Listing.{textOf, textFrom, listing}
 use Rattle.rules.specs.Promise.{Promise}
-use Rattle.laws.specs.Lengths.{multipliers-length, sums-length, totals-length}
-use Rattle.laws.specs.NotRefused.{otherwise-none}
-use Rattle.margins.specs.Accepted.{Accepted, accepted}
-use Rattle.margins.specs.RunMagnitudes.{run-magnitudes}
-use Rattle.record.specs.PlanFits.{PlanFits}
-use Rattle.record.specs.RoundTrip.{round-trip, holds-record}
+use Rattle.proof_laws.specs.Lengths.{multipliers-length, sums-length, totals-length}
+use Rattle.proof_laws.specs.NotRefused.{otherwise-none}
+use Rattle.proof_margins.specs.Accepted.{Accepted, accepted}
+use Rattle.proof_margins.specs.RunMagnitudes.{run-magnitudes}
+use Rattle.out_record.specs.PlanFits.{PlanFits}
+use Rattle.out_record.specs.RoundTrip.{round-trip, holds-record}
 
 -- the plan of an accepted problem, none of whose steps is refused, fits its record
 plan-fits : {P : Problem} {k : ℕ} → Accepted P k → stepRefusal P k ≡ none → PlanFits (planAfter P k)
@@ -36,8 +36,8 @@ plan-fits {P} {k} a going =
       sums-length = sums-length P k;
       multipliers-length = multipliers-length P k;
       totals-length = totals-length P k;
-      sum = λ j l. bnd-sfits tt (large .sum j l .bound);
-      multiplier = λ i l. bnd-sfits tt (large .multiplier i l .bound);
+      sum = λ j l. bnd-sfits tt (large .sum j l .magnitude);
+      multiplier = λ i l. bnd-sfits tt (large .multiplier i l .magnitude);
       total = λ i l. large .residual-total i l .fits;
     }
 

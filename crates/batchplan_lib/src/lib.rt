@@ -5,8 +5,8 @@ ghost use lib.ListN.{length};
 ghost use Rattle.rules.specs.Answers.{outcome};
 ghost use Rattle.rules.specs.Listing.{listing, Listed};
 ghost use Rattle.batchplan_lib.specs.Called.{number, placeOf, lowOf, gapOf, Called};
-use listing::number_of;
-use listing::write_listing;
+use out_listing::number_of;
+use out_listing::write_listing;
 use planner::plan;
 use rules::Answer;
 

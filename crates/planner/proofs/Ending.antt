@@ -5,7 +5,7 @@ use mathlib.Core.Option.{Option, none, some}
 use Prim.Native.Nat.{ℕ}
 use lib.IntN.{ℤ}
 use lib.ListN.{length, drop}
-use Rattle.integer.specs.Vector.{at, tabulate}
+use Rattle.rules.specs.Notation.{tabulate, at}
 use Rattle.rules.specs.declared.Answer.{Answer}
 use Rattle.rules.specs.declared.Refusal.{Refusal}
 use Rattle.rules.specs.Problem.{Problem}
@@ -16,16 +16,16 @@ use Rattle.rules.specs.Refusals.{Numbered, numbered}
 use Rattle.rules.specs.Answers.{plan, refusal, planOf, outcome, outcomeOf, answer, bufferOf, bufferAfter}
 use Rattle.rules.specs.Margins.{Margins}
 use Rattle.rules.specs.Promise.{Promise}
-use Rattle.laws.specs.Lengths.{multipliers-length, sums-length, totals-length}
-use Rattle.margins.specs.Theorem.{margins}
-use Rattle.figures.specs.declared.Figures.{Figures}
-use Rattle.figures.specs.Padded.{tabulate-at}
-use Rattle.figures.specs.Figures.{problemOf}
-use Rattle.method.specs.declared.State.{State}
-use Rattle.method.specs.Arrays.{arraysOf}
-use Rattle.method.specs.Reads.{multipliers-read, sums-read, totals-read}
-use Rattle.method.specs.Asked.{Reached}
-use Rattle.record.specs.Held.{planIn}
+use Rattle.proof_laws.specs.Lengths.{multipliers-length, sums-length, totals-length}
+use Rattle.proof_margins.specs.Theorem.{margins}
+use Rattle.sheet_figures.specs.declared.Figures.{Figures}
+use Rattle.sheet_figures.specs.Padded.{tabulate-at}
+use Rattle.sheet_figures.specs.Figures.{problemOf}
+use Rattle.run_steps.specs.declared.State.{State}
+use Rattle.run_steps.specs.Arrays.{arraysOf}
+use Rattle.run_steps.specs.Reads.{multipliers-read, sums-read, totals-read}
+use Rattle.run_steps.specs.Asked.{Reached}
+use Rattle.out_record.specs.Held.{planIn}
 use Rattle.planner.specs.Finish.{Ends}
 
 -- a refusal leaves the buffer as lent

@@ -10,11 +10,11 @@ use Rattle.rules.specs.Run.{startingMultiplier, planAfter}
 use Rattle.rules.specs.Record.{recordLength}
 use Rattle.rules.specs.Refusals.{Numbered, refuse, _otherwise_, layoutRefusal, refusalBeforeSteps}
 use Rattle.rules.specs.Answers.{stepRefusal, refusal, planOf}
-use Rattle.laws.specs.FirstPlace.{given, handed-on}
-use Rattle.laws.specs.Agreeing.{Agree, same-refusal, same-plan}
-use Rattle.margins.specs.Accepted.{Accepted, accepted}
-use Rattle.figures.specs.declared.Figures.{Figures}
-use Rattle.figures.specs.Figures.{Holds, figuresOf, problemOf, figures-hold}
+use Rattle.proof_laws.specs.FirstPlace.{given, handed-on}
+use Rattle.proof_laws.specs.Agreeing.{Agree, same-refusal, same-plan}
+use Rattle.proof_margins.specs.Accepted.{Accepted, accepted}
+use Rattle.sheet_figures.specs.declared.Figures.{Figures}
+use Rattle.sheet_figures.specs.Figures.{Holds, figuresOf, problemOf, figures-hold}
 
 -- ---- the problem whose figures stand in the arrays of P
 module _ {P : Problem} {k : ℕ} (a : Accepted P k) where
@@ -33,7 +33,7 @@ module _ {P : Problem} {k : ℕ} (a : Accepted P k) where
     least = held .leasts .here;
     most = held .mosts .here;
     coefficient = held .coefficients .here;
-    bound = held .bounds .here;
+    rhs = held .right-hand-sides .here;
   }
 
   -- and lies in the same ranges
@@ -54,7 +54,7 @@ module _ {P : Problem} {k : ℕ} (a : Accepted P k) where
     ordered = λ j l. rw (held .leasts .here j l, held .mosts .here j l) (a .ordered j l);
     most-in = λ j l. rw (held .mosts .here j l) (a .most-in j l);
     coefficient-in = λ i h j l. rw (held .coefficients .here i j h l) (a .coefficient-in i h j l);
-    bound-in = λ i l. rw (held .bounds .here i l) (a .bound-in i l);
+    rhs-in = λ i l. rw (held .right-hand-sides .here i l) (a .rhs-in i l);
     start-sign = a .start-sign;
     start-top = a .start-top;
   }

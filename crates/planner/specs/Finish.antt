@@ -9,11 +9,11 @@ use Rattle.rules.specs.Run.{Plan}
 use Rattle.rules.specs.Record.{recordLength}
 use Rattle.rules.specs.Refusals.{Numbered}
 use Rattle.rules.specs.Answers.{outcome, outcomeOf, bufferOf}
-use Rattle.margins.specs.Accepted.{Accepted}
-use Rattle.figures.specs.declared.Figures.{Figures}
-use Rattle.figures.specs.Figures.{problemOf}
-use Rattle.method.specs.declared.State.{State}
-use Rattle.method.specs.Asked.{Reached}
+use Rattle.proof_margins.specs.Accepted.{Accepted}
+use Rattle.sheet_figures.specs.declared.Figures.{Figures}
+use Rattle.sheet_figures.specs.Figures.{problemOf}
+use Rattle.run_steps.specs.declared.State.{State}
+use Rattle.run_steps.specs.Asked.{Reached}
 
 -- the answer of a plan p and of the refusal that was met, if any, with the buffer afterwards
 pub record Ends (p : Plan) (met : Option Numbered) (lent left : List ℕ) (result : Answer) : Type 0 where

@@ -7,21 +7,21 @@ ghost use Rattle.rules.specs.Record.{recordLength};
 ghost use Rattle.rules.specs.Refusals.{refuse, _otherwise_};
 ghost use Rattle.rules.specs.Answers.{stepRefusal};
 ghost use Rattle.rules.specs.Promise.{Promise};
-ghost use Rattle.margins.specs.Accepted.{Accepted};
-ghost use Rattle.figures.specs.Figures.{problemOf};
+ghost use Rattle.proof_margins.specs.Accepted.{Accepted};
+ghost use Rattle.sheet_figures.specs.Figures.{problemOf};
 ghost use Rattle.planner.specs.Finish.{Ends, RunAsked, WriteAsked};
-use figures::Figures;
-use method::State;
-use method::Stop;
-use method::gap;
-use method::run;
-use reader::Verdict;
-use reader::read_sheet;
-use record::Head;
-use record::write_record;
+use out_record::Head;
+use out_record::write_record;
 use rules::Answer;
 use rules::Cause;
 use rules::Refusal;
+use run_steps::State;
+use run_steps::Stop;
+use run_steps::gap;
+use run_steps::run;
+use sheet_figures::Figures;
+use sheet_read::Verdict;
+use sheet_read::read_sheet;
 
 // The record and the answer of a run that came to its end.
 fn write_plan(f: Figures, state: State, record: &mut [u8]) -> Answer

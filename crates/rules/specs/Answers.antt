@@ -1,5 +1,5 @@
 -- Document 01, "The record" and "When a sheet is turned back": the answer to a sheet, and the lent buffer afterwards.
-use Prim.Native.Nat.{ℕ}
+use Prim.Native.Nat.{ℕ, suc}
 use mathlib.Core.List.{List, _++_}
 use mathlib.Core.Option.{Option, none, some}
 use lib.ListN.{length, drop}
@@ -8,7 +8,7 @@ use Rattle.rules.specs.declared.Answer.{Answer}
 use Rattle.rules.specs.Problem.{Problem}
 use Rattle.rules.specs.Sheet.{sheetOf, problem}
 use Rattle.rules.specs.Step.{infeasible, diverged}
-use Rattle.rules.specs.Run.{Plan, stepAt, planAfter}
+use Rattle.rules.specs.Run.{Plan, stateAfter, lookAt, planAfter}
 use Rattle.rules.specs.Record.{recordOf, recordLength}
 use Rattle.rules.specs.Refusals.{Numbered, numbered, refuse, _otherwise_, firstBelow, refusalBeforeSteps}
 
@@ -22,9 +22,9 @@ unfoldable pub outcome : Answer → Outcome
 outcome (Answer.Plan low gap) = plan low gap
 outcome (Answer.Refused r) = refused (numbered r)
 
--- Refusals 9 and 10 at step t, 9 before 10. The place is the step's number.
+-- Refusals 9 and 10 at step t, 9 before 10: of what the step works out, and of the state that it hands back. The place is the step's number.
 unfoldable pub refusalAt : Problem → ℕ → Option Numbered
-refusalAt P t = let q = stepAt P t in refuse 9 t (infeasible P q) otherwise refuse 10 t (diverged P q)
+refusalAt P t = refuse 9 t (infeasible P (lookAt P t)) otherwise refuse 10 t (diverged P (stateAfter P (suc t)))
 
 -- the refusal of the first of k steps that is refused
 unfoldable pub stepRefusal : Problem → ℕ → Option Numbered

@@ -6,15 +6,15 @@ use mathlib.Core.List.{List, [], _∷_, _++_, map}
 use mathlib.Core.Option.{none}
 use lib.ListN.{replicate}
 use lib.IntN.{pos}
+use Rattle.rules.specs.Notation.{neg}
 use Rattle.rules.specs.declared.Answer.the-variants.{Plan, Refused}
 use Rattle.rules.specs.declared.Cause.{Cause}
 use Rattle.rules.specs.declared.Cause.the-variants.{Short, Dimensions, Length, Parameters, Key, Value, Bounds, Buffer, Infeasible, Diverged}
 use Rattle.rules.specs.Bytes.{signedAt, unsignedBytes}
 use Rattle.rules.specs.Sheet.{sheetLength}
-use Rattle.rules.specs.Ranges.{neg}
 use Rattle.rules.specs.Refusals.{layoutRefusal}
 use Rattle.rules.specs.Listing.{text}
-use Rattle.rules.specs.Rows.{_∶_, sizes, written, hex, Row, Holds, All}
+use Rattle.rules.specs.Rows.{_∶_, sizes, encode, hex, Row, Holds, All}
 use Rattle.rules.specs.Marked.{C1, C3, C7}
 
 -- a row for a refusal
@@ -28,19 +28,19 @@ examples =
     -- 11 bytes
     refusal-row (replicate 11 0) 42 Short 0 "refused 1 0\n" ∷
     -- n = 33
-    refusal-row (written 33 0 1 1 1 []) 42 Dimensions 0 "refused 2 0\n" ∷
+    refusal-row (encode 33 0 1 1 1 []) 42 Dimensions 0 "refused 2 0\n" ∷
     -- e = 1, 12 bytes
     refusal-row (sizes (1 ∷ 0 ∷ 1 ∷ 1 ∷ 1 ∷ 1 ∷ [])) 42 Length 0 "refused 3 0\n" ∷
     -- D = 0
-    refusal-row (written 1 0 1 0 1 []) 42 Parameters 0 "refused 4 0\n" ∷
+    refusal-row (encode 1 0 1 0 1 []) 42 Parameters 0 "refused 4 0\n" ∷
     -- keys 1, 1 with n = 2
-    refusal-row (written 2 0 1 1 1 (1 ∶ pos 5 ∷ 1 ∶ pos 5 ∷ [])) 42 Key 1 "refused 5 1\n" ∷
+    refusal-row (encode 2 0 1 1 1 (1 ∶ pos 5 ∷ 1 ∶ pos 5 ∷ [])) 42 Key 1 "refused 5 1\n" ∷
     -- key 0, value 0
-    refusal-row (written 1 0 1 1 1 (0 ∶ pos 0 ∷ [])) 42 Value 0 "refused 6 0\n" ∷
+    refusal-row (encode 1 0 1 1 1 (0 ∶ pos 0 ∷ [])) 42 Value 0 "refused 6 0\n" ∷
     -- C1, 41 bytes
     refusal-row (C1 .sheet) 41 Buffer 42 "refused 8 42\n" ∷
     -- a bad value before a bad key: 5, not 6
-    refusal-row (written 1 0 1 1 1 (0 ∶ pos 0 ∷ 1 ∶ pos 1 ∷ [])) 42 Key 1 "refused 5 1\n" ∷
+    refusal-row (encode 1 0 1 1 1 (0 ∶ pos 0 ∷ 1 ∶ pos 1 ∷ [])) 42 Key 1 "refused 5 1\n" ∷
     []
 
 pub examples-hold : All examples
@@ -51,17 +51,17 @@ examples-hold = ((refl, refl, refl, refl), ((refl, refl, refl, refl), ((refl, re
 abbrev pub order : List Row
 order =
     -- e above its bound, though the length fits: 2, not 5
-    refusal-row (written 1 0 1 1 1 (0 ∶ pos 1 ∷ 64 ∶ pos 1 ∷ 128 ∶ pos 1 ∷ 192 ∶ pos 1 ∷ [])) 42 Dimensions 0 "refused 2 0\n" ∷
+    refusal-row (encode 1 0 1 1 1 (0 ∶ pos 1 ∷ 64 ∶ pos 1 ∷ 128 ∶ pos 1 ∷ 192 ∶ pos 1 ∷ [])) 42 Dimensions 0 "refused 2 0\n" ∷
     -- a byte too many and k = 0: 3, not 4
-    refusal-row (written 1 0 1 1 0 [] ++ (0 ∷ [])) 42 Length 0 "refused 3 0\n" ∷
+    refusal-row (encode 1 0 1 1 0 [] ++ (0 ∷ [])) 42 Length 0 "refused 3 0\n" ∷
     -- a bad value and a least amount above the most: 6, not 7
-    refusal-row (written 1 0 1 1 1 (64 ∶ pos 4 ∷ 128 ∶ neg 1 ∷ [])) 42 Value 1 "refused 6 1\n" ∷
+    refusal-row (encode 1 0 1 1 1 (64 ∶ pos 4 ∷ 128 ∶ neg 1 ∷ [])) 42 Value 1 "refused 6 1\n" ∷
     -- a least amount above the most and a short buffer: 7, not 8
-    refusal-row (written 2 0 1 1 1 (65 ∶ pos 1 ∷ [])) 0 Bounds 1 "refused 7 1\n" ∷
+    refusal-row (encode 2 0 1 1 1 (65 ∶ pos 1 ∷ [])) 0 Bounds 1 "refused 7 1\n" ∷
     -- C3 with a short buffer: 8, not 9
     refusal-row (C3 .sheet) 37 Buffer 38 "refused 8 38\n" ∷
     -- C6 with k 2: at step 1 the value is 2^50, above 0, and the multiplier would be 2^31: 9, not 10
-    refusal-row (written 1 1 1024 1 2 (193 ∶ neg 1048576 ∷ [])) 38 Infeasible 1 "refused 9 1\n" ∷
+    refusal-row (encode 1 1 1024 1 2 (193 ∶ neg 1048576 ∷ [])) 38 Infeasible 1 "refused 9 1\n" ∷
     []
 
 pub order-holds : All order
@@ -73,37 +73,37 @@ abbrev pub ends : List Row
 ends =
     refusal-row [] 42 Short 0 "refused 1 0\n" ∷
     refusal-row (replicate 12 255) 42 Dimensions 0 "refused 2 0\n" ∷
-    refusal-row (written 0 0 1 1 1 []) 42 Dimensions 0 "refused 2 0\n" ∷
-    refusal-row (written 1 17 1 1 1 []) 42 Dimensions 0 "refused 2 0\n" ∷
+    refusal-row (encode 0 0 1 1 1 []) 42 Dimensions 0 "refused 2 0\n" ∷
+    refusal-row (encode 1 17 1 1 1 []) 42 Dimensions 0 "refused 2 0\n" ∷
     -- both bytes of n, m and e count
     refusal-row (sizes (257 ∷ 0 ∷ 0 ∷ 1 ∷ 1 ∷ 1 ∷ [])) 42 Dimensions 0 "refused 2 0\n" ∷
     refusal-row (sizes (1 ∷ 256 ∷ 0 ∷ 1 ∷ 1 ∷ 1 ∷ [])) 42 Dimensions 0 "refused 2 0\n" ∷
     refusal-row (sizes (1 ∷ 0 ∷ 256 ∷ 1 ∷ 1 ∷ 1 ∷ [])) 42 Dimensions 0 "refused 2 0\n" ∷
     refusal-row (C7 .sheet ++ (0 ∷ [])) 42 Length 0 "refused 3 0\n" ∷
-    refusal-row (written 1 0 0 1 1 []) 42 Parameters 0 "refused 4 0\n" ∷
-    refusal-row (written 1 0 1025 1 1 []) 42 Parameters 0 "refused 4 0\n" ∷
-    refusal-row (written 1 0 1 1025 1 []) 42 Parameters 0 "refused 4 0\n" ∷
-    refusal-row (written 1 0 1 1 0 []) 42 Parameters 0 "refused 4 0\n" ∷
-    refusal-row (written 1 0 1 1 4097 []) 42 Parameters 0 "refused 4 0\n" ∷
+    refusal-row (encode 1 0 0 1 1 []) 42 Parameters 0 "refused 4 0\n" ∷
+    refusal-row (encode 1 0 1025 1 1 []) 42 Parameters 0 "refused 4 0\n" ∷
+    refusal-row (encode 1 0 1 1025 1 []) 42 Parameters 0 "refused 4 0\n" ∷
+    refusal-row (encode 1 0 1 1 0 []) 42 Parameters 0 "refused 4 0\n" ∷
+    refusal-row (encode 1 0 1 1 4097 []) 42 Parameters 0 "refused 4 0\n" ∷
     -- row m+3; column n+1 in a limit's row; column n in row 2; the largest key
-    refusal-row (written 1 0 1 1 1 (192 ∶ pos 1 ∷ [])) 42 Key 0 "refused 5 0\n" ∷
-    refusal-row (written 1 1 1 1 1 (194 ∶ pos 1 ∷ [])) 42 Key 0 "refused 5 0\n" ∷
-    refusal-row (written 1 0 1 1 1 (129 ∶ pos 1 ∷ [])) 42 Key 0 "refused 5 0\n" ∷
-    refusal-row (written 1 0 1 1 1 (65535 ∶ pos 1 ∷ [])) 42 Key 0 "refused 5 0\n" ∷
-    refusal-row (written 1 1 1 1 1 (0 ∶ pos 10001 ∷ [])) 42 Value 0 "refused 6 0\n" ∷
-    refusal-row (written 1 1 1 1 1 (0 ∶ neg 10001 ∷ [])) 42 Value 0 "refused 6 0\n" ∷
-    refusal-row (written 1 1 1 1 1 (64 ∶ neg 1 ∷ [])) 42 Value 0 "refused 6 0\n" ∷
-    refusal-row (written 1 1 1 1 1 (64 ∶ pos 1001 ∷ [])) 42 Value 0 "refused 6 0\n" ∷
-    refusal-row (written 1 1 1 1 1 (128 ∶ pos 1001 ∷ [])) 42 Value 0 "refused 6 0\n" ∷
-    refusal-row (written 1 1 1 1 1 (192 ∶ neg 1001 ∷ [])) 42 Value 0 "refused 6 0\n" ∷
-    refusal-row (written 1 1 1 1 1 (192 ∶ pos 1001 ∷ [])) 42 Value 0 "refused 6 0\n" ∷
-    refusal-row (written 1 1 1 1 1 (193 ∶ neg 32000001 ∷ [])) 42 Value 0 "refused 6 0\n" ∷
-    refusal-row (written 1 1 1 1 1 (192 ∶ pos 1 ∷ 193 ∶ pos 32000001 ∷ [])) 42 Value 1 "refused 6 1\n" ∷
+    refusal-row (encode 1 0 1 1 1 (192 ∶ pos 1 ∷ [])) 42 Key 0 "refused 5 0\n" ∷
+    refusal-row (encode 1 1 1 1 1 (194 ∶ pos 1 ∷ [])) 42 Key 0 "refused 5 0\n" ∷
+    refusal-row (encode 1 0 1 1 1 (129 ∶ pos 1 ∷ [])) 42 Key 0 "refused 5 0\n" ∷
+    refusal-row (encode 1 0 1 1 1 (65535 ∶ pos 1 ∷ [])) 42 Key 0 "refused 5 0\n" ∷
+    refusal-row (encode 1 1 1 1 1 (0 ∶ pos 10001 ∷ [])) 42 Value 0 "refused 6 0\n" ∷
+    refusal-row (encode 1 1 1 1 1 (0 ∶ neg 10001 ∷ [])) 42 Value 0 "refused 6 0\n" ∷
+    refusal-row (encode 1 1 1 1 1 (64 ∶ neg 1 ∷ [])) 42 Value 0 "refused 6 0\n" ∷
+    refusal-row (encode 1 1 1 1 1 (64 ∶ pos 1001 ∷ [])) 42 Value 0 "refused 6 0\n" ∷
+    refusal-row (encode 1 1 1 1 1 (128 ∶ pos 1001 ∷ [])) 42 Value 0 "refused 6 0\n" ∷
+    refusal-row (encode 1 1 1 1 1 (192 ∶ neg 1001 ∷ [])) 42 Value 0 "refused 6 0\n" ∷
+    refusal-row (encode 1 1 1 1 1 (192 ∶ pos 1001 ∷ [])) 42 Value 0 "refused 6 0\n" ∷
+    refusal-row (encode 1 1 1 1 1 (193 ∶ neg 32000001 ∷ [])) 42 Value 0 "refused 6 0\n" ∷
+    refusal-row (encode 1 1 1 1 1 (192 ∶ pos 1 ∷ 193 ∶ pos 32000001 ∷ [])) 42 Value 1 "refused 6 1\n" ∷
     -- a multiplier of 325·3,303,821 = 2^30 + 1, at the second limit
-    refusal-row (written 1 2 325 1 1 (257 ∶ neg 3303821 ∷ [])) 50 Diverged 0 "refused 10 0\n" ∷
+    refusal-row (encode 1 2 325 1 1 (257 ∶ neg 3303821 ∷ [])) 50 Diverged 0 "refused 10 0\n" ∷
     -- every figure at an end of its range: cost −10,000, least 1, most 1,000, a 1,000, b −32,000,000
     record {
-      sheet = written 1 1 1 1 1 (0 ∶ neg 10000 ∷ 64 ∶ pos 1 ∷ 128 ∶ pos 1000 ∷ 192 ∶ pos 1000 ∷ 193 ∶ neg 32000000 ∷ []);
+      sheet = encode 1 1 1 1 1 (0 ∶ neg 10000 ∷ 64 ∶ pos 1 ∷ 128 ∶ pos 1000 ∷ 192 ∶ pos 1000 ∷ 193 ∶ neg 32000000 ∷ []);
       room = 38;
       answer = Plan (neg 10000000) (pos 0);
       bytes = hex "0100 0100 0100 806967ffffffffff 0000000000000000 e8030000 408af701 408af70100000000";
@@ -111,7 +111,7 @@ ends =
     } ∷
     -- and at the other: cost 10,000, least 1,000, a −1,000, b 32,000,000; p and D 1,024
     record {
-      sheet = written 1 1 1024 1024 1 (0 ∶ pos 10000 ∷ 64 ∶ pos 1000 ∷ 128 ∶ pos 1000 ∷ 192 ∶ neg 1000 ∷ 193 ∶ pos 32000000 ∷ []);
+      sheet = encode 1 1 1024 1024 1 (0 ∶ pos 10000 ∷ 64 ∶ pos 1000 ∷ 128 ∶ pos 1000 ∷ 192 ∶ neg 1000 ∷ 193 ∶ pos 32000000 ∷ []);
       room = 38;
       answer = Plan (pos 10240000000) (pos 0);
       bytes = hex "0100 0100 0100 00005a6202000000 0000000000000000 e8030000 00000000 c07508feffffffff";
@@ -129,7 +129,7 @@ unfolding Holds
 signed-bytes = refl
 
 -- the largest sizes are read
-pub largest-sizes : layoutRefusal (written 32 16 1024 1024 4096 []) ≡ none
+pub largest-sizes : layoutRefusal (encode 32 16 1024 1024 4096 []) ≡ none
 unfolding Holds
 largest-sizes = refl
 
@@ -149,7 +149,7 @@ steps =
     -- and its multiplier 10, not 2.
     record {
       sheet =
-          written 2 2 2 3 3
+          encode 2 2 2 3 3
           (0 ∶ pos 1 ∷ 1 ∶ pos 2 ∷ 128 ∶ pos 4 ∷ 129 ∶ pos 5 ∷ 192 ∶ neg 1 ∷ 194 ∶ neg 3 ∷ 256 ∶ pos 1 ∷ 257 ∶ neg 1 ∷ 258 ∶ neg 1 ∷ []);
       room = 54;
       answer = Plan (pos 16) (neg 6);
@@ -161,7 +161,7 @@ steps =
     -- step 1: M = 0, 15; weight 10−30 = −20; amount 10; misses −4,990, −5; value 10·10 + 15·(−5) = 25.
     -- Closing M = 0, 10; sum 10; overshoots −9,990, 10; low 25; gap 10·10 − 2·25 = 50.
     record {
-      sheet = written 1 2 1 10 2 (0 ∶ pos 1 ∷ 128 ∶ pos 10 ∷ 192 ∶ pos 1 ∷ 193 ∶ pos 5000 ∷ 256 ∶ neg 2 ∷ 257 ∶ neg 15 ∷ []);
+      sheet = encode 1 2 1 10 2 (0 ∶ pos 1 ∷ 128 ∶ pos 10 ∷ 192 ∶ pos 1 ∷ 193 ∶ pos 5000 ∷ 256 ∶ neg 2 ∷ 257 ∶ neg 15 ∷ []);
       room = 50;
       answer = Plan (pos 25) (pos 50);
       bytes = hex "0100 0200 0200 1900000000000000 3200000000000000 0a000000 00000000 0a000000 fad8ffffffffffff 0a00000000000000";
@@ -170,7 +170,7 @@ steps =
     -- A negative cost: the greatest cost is −2·1, with the least amount, and not −2·3. Cost −2, from 1 to 3, x ≤ 2, k = 2. By hand:
     -- step 0: M = 0; weight −2; amount 3; miss 1; value −6. Step 1: M = 1; weight −1; amount 3; miss 1; value −6 + 1 = −5, which −2 allows.
     record {
-      sheet = written 1 1 1 1 2 (0 ∶ neg 2 ∷ 64 ∶ pos 1 ∷ 128 ∶ pos 3 ∷ 192 ∶ pos 1 ∷ 193 ∶ pos 2 ∷ []);
+      sheet = encode 1 1 1 1 2 (0 ∶ neg 2 ∷ 64 ∶ pos 1 ∷ 128 ∶ pos 3 ∷ 192 ∶ pos 1 ∷ 193 ∶ pos 2 ∷ []);
       room = 38;
       answer = Plan (neg 5) (neg 2);
       bytes = hex "0100 0100 0200 fbffffffffffffff feffffffffffffff 06000000 02000000 0200000000000000";

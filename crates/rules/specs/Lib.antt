@@ -1,4 +1,5 @@
 -- Document 01 as definitions that compute. This is what a reader must believe; read it beside the paper, in this order:
+--   Notation   −n, the larger of two, finite sums, lists by their places
 --   Problem    materials, costs, bounds and limits; feasible points
 --   Bytes      little-endian numbers of a width
 --   Sheet      the layout of a batch sheet, and the figure at a row and a column
@@ -17,8 +18,7 @@
 --   Examples   the examples of the refusals, their order, the ends of the ranges, and steps worked by hand
 -- Signs: `pos n` and `negsuc n` are the integers n and −(n + 1). `ltb leb eqb` test naturals for < ≤ =, and `ltZ leZ` integers for < ≤.
 -- `cond b x y` is x where the test b holds, else y. `getD s i d` is element i of the list s, or d past its end.
--- Of the crate `integer`: `sumTo n f` is f 0 + .. + f (n − 1), `maxℤ` the larger of two, `tabulate n f` the list of f 0 to f (n − 1), and `at s i`
--- is `getD s i 0` for integers.
+pub mod Notation
 pub mod Problem
 pub mod Bytes
 pub mod Sheet

@@ -8,7 +8,7 @@ use mathlib.Core.List.{List, [], _∷_, _++_}
 use lib.ListN.{length, drop}
 use lib.IntN.{ℤ, pos, negsuc}
 use lib.Dec.{leb}
-use Rattle.integer.specs.Vector.{at}
+use Rattle.rules.specs.Notation.{at}
 use Rattle.rules.specs.Run.{Plan}
 use Rattle.rules.specs.Record.{recorded, holdsRecord}
 use Rattle.rules.specs.Refusals.{Numbered}

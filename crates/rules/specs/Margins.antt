@@ -4,18 +4,19 @@ use mathlib.Core.List.{List}
 use Prim.Native.Nat.{ℕ, _<_}
 use lib.IntN.{ℤ, pos, _+ℤ_, _-ℤ_, _*ℤ_}
 use lib.Signed.{_≤ℤ_}
-use Rattle.integer.specs.Sum.{sumTo}
-use Rattle.integer.specs.Vector.{at}
+use Rattle.rules.specs.Notation.{sumTo, at}
 use Rattle.rules.specs.Problem.{Problem, costOf, Feasible, NoneFeasible}
 use Rattle.rules.specs.Sheet.{sheetOf, problem}
-use Rattle.rules.specs.Run.{stepAt, planAfter}
+use Rattle.rules.specs.Run.{lookAt, planAfter}
 use Rattle.rules.specs.Answers.{Outcome, plan, refused}
 
 abbrev pub square : ℤ → ℤ
 square z = z *ℤ z
 
--- The margins of the plan after k steps, with the printed gap.
-pub record PlanMargins (P : Problem) (k : ℕ) (gap : ℤ) : Type 0 where
+-- The margins of the plan after k steps, with the printed low and gap.
+pub record PlanMargins (P : Problem) (k : ℕ) (low gap : ℤ) : Type 0 where
+  -- over every feasible point y/d: d·low ≤ D·cost of y, so that none costs less than low/D
+  pub lower : (d : ℤ) (y : ℕ → ℤ) → Feasible P d y → (d *ℤ low) ≤ℤ (pos (P .scale) *ℤ costOf P y)
   -- over every feasible point y/d: d·D·cost of the sums − k·D·cost of y ≤ d·gap
   pub excess : (d : ℤ) (y : ℕ → ℤ) → Feasible P d y →
       (d *ℤ (pos (P .scale) *ℤ costOf P (at (planAfter P k .sums))) -ℤ pos k *ℤ (pos (P .scale) *ℤ costOf P y)) ≤ℤ (d *ℤ gap)
@@ -25,9 +26,9 @@ pub record PlanMargins (P : Problem) (k : ℕ) (gap : ℤ) : Type 0 where
   -- 2·p·gap + Σ_i (closing multiplier)² ≤ p²·Σ_t Σ_i residual², over steps 0 to k−1
   pub squares :
       (pos 2 *ℤ pos (P .numerator) *ℤ gap +ℤ sumTo (P .limits) (λ i. square (at (planAfter P k .multipliers) i)))
-      ≤ℤ (square (pos (P .numerator)) *ℤ sumTo k (λ t. sumTo (P .limits) (λ i. square (at (stepAt P t .residuals) i))))
+      ≤ℤ (square (pos (P .numerator)) *ℤ sumTo k (λ t. sumTo (P .limits) (λ i. square (at (lookAt P t .residuals) i))))
 
 -- Demand 3: a plan has its margins; and where the answer is refusal 9 ("no blend"), whatever its place, there is no feasible point.
 unfoldable pub Margins : List ℕ → Outcome → Type 0
-Margins s (plan low gap) = PlanMargins (problem (sheetOf s)) (sheetOf s .steps) gap
+Margins s (plan low gap) = PlanMargins (problem (sheetOf s)) (sheetOf s .steps) low gap
 Margins s (refused r) = r .number ≡ 9 → NoneFeasible (problem (sheetOf s))

@@ -2,16 +2,15 @@
 use mathlib.Core.Path.{_≡_, refl}
 use mathlib.Core.List.{List, [], _∷_, map}
 use lib.IntN.{pos}
-use Rattle.integer.specs.Vector.{at}
+use Rattle.rules.specs.Notation.{neg, at}
 use Rattle.rules.specs.declared.Answer.the-variants.{Plan, Refused}
 use Rattle.rules.specs.declared.Cause.the-variants.{Bounds, Infeasible, Diverged}
 use Rattle.rules.specs.Problem.{Problem}
 use Rattle.rules.specs.Sheet.{sheetOf, problem}
-use Rattle.rules.specs.Ranges.{neg}
-use Rattle.rules.specs.Step.{reducedCost, greatestCost}
-use Rattle.rules.specs.Run.{stateAfter, stepAt}
+use Rattle.rules.specs.Step.{reducedCost, greatestCost, cheapestCost}
+use Rattle.rules.specs.Run.{stateAfter, lookAt}
 use Rattle.rules.specs.Listing.{text}
-use Rattle.rules.specs.Rows.{Entry, _∶_, written, hex, Row, Holds, All}
+use Rattle.rules.specs.Rows.{Entry, _∶_, encode, hex, Row, Holds, All}
 
 abbrev entries-C1 : List Entry
 entries-C1 = 0 ∶ pos 3 ∷ 1 ∶ pos 1 ∷ 128 ∶ pos 10 ∷ 129 ∶ pos 10 ∷ 192 ∶ neg 2 ∷ 193 ∶ neg 1 ∷ 194 ∶ neg 12 ∷ []
@@ -19,7 +18,7 @@ entries-C1 = 0 ∶ pos 3 ∷ 1 ∶ pos 1 ∷ 128 ∶ pos 10 ∷ 129 ∶ pos 10 �
 -- Multipliers go 0, 12, 14, 0, 12; step values are 0, 104, 68, 0. Step 1 has a tie at material 0.
 abbrev pub C1 : Row
 C1 = record {
-  sheet = written 2 1 1 8 4 entries-C1;
+  sheet = encode 2 1 1 8 4 entries-C1;
   room = 44;
   answer = Plan (pos 104) (neg 16);
   bytes = hex "0200 0100 0400 6800000000000000 f0ffffffffffffff 0a000000 14000000 0c000000 0800000000000000";
@@ -29,7 +28,7 @@ C1 = record {
 -- C1 with k 1
 abbrev pub C2 : Row
 C2 = record {
-  sheet = written 2 1 1 8 1 entries-C1;
+  sheet = encode 2 1 1 8 1 entries-C1;
   room = 42;
   answer = Plan (pos 0) (pos 0);
   bytes = hex "0200 0100 0100 0000000000000000 0000000000000000 00000000 00000000 0c000000 0c00000000000000";
@@ -42,7 +41,7 @@ entries-C3 = 0 ∶ pos 1 ∷ 128 ∶ pos 1 ∷ 192 ∶ neg 1 ∷ 193 ∶ neg 5 �
 -- refused 9 at 1: step value 21, greatest cost 1
 abbrev pub C3 : Row
 C3 = record {
-  sheet = written 1 1 1 1 2 entries-C3;
+  sheet = encode 1 1 1 1 2 entries-C3;
   room = 38;
   answer = Refused (record { place = 1; cause = Infeasible });
   bytes = [];
@@ -52,7 +51,7 @@ C3 = record {
 -- C3 with k 1
 abbrev pub C4 : Row
 C4 = record {
-  sheet = written 1 1 1 1 1 entries-C3;
+  sheet = encode 1 1 1 1 1 entries-C3;
   room = 40;
   answer = Plan (pos 0) (pos 0);
   bytes = hex "0100 0100 0100 0000000000000000 0000000000000000 00000000 05000000 0500000000000000";
@@ -62,7 +61,7 @@ C4 = record {
 -- refused 10 at 0: the multiplier would be 1,073,742,848
 abbrev pub C5 : Row
 C5 = record {
-  sheet = written 1 1 1024 1 1 (193 ∶ neg 1048577 ∷ []);
+  sheet = encode 1 1 1024 1 1 (193 ∶ neg 1048577 ∷ []);
   room = 38;
   answer = Refused (record { place = 0; cause = Diverged });
   bytes = [];
@@ -72,7 +71,7 @@ C5 = record {
 -- C5 with −1,048,576: the multiplier is 1,073,741,824
 abbrev pub C6 : Row
 C6 = record {
-  sheet = written 1 1 1024 1 1 (193 ∶ neg 1048576 ∷ []);
+  sheet = encode 1 1 1024 1 1 (193 ∶ neg 1048576 ∷ []);
   room = 38;
   answer = Plan (pos 0) (pos 0);
   bytes = hex "0100 0100 0100 0000000000000000 0000000000000000 00000000 00000040 0000100000000000";
@@ -82,7 +81,7 @@ C6 = record {
 -- no entries
 abbrev pub C7 : Row
 C7 = record {
-  sheet = written 1 0 1 1 1 [];
+  sheet = encode 1 0 1 1 1 [];
   room = 26;
   answer = Plan (pos 0) (pos 0);
   bytes = hex "0100 0000 0100 0000000000000000 0000000000000000 00000000";
@@ -92,7 +91,7 @@ C7 = record {
 -- a negative low
 abbrev pub C8 : Row
 C8 = record {
-  sheet = written 1 0 1 1 2 (0 ∶ neg 2 ∷ 128 ∶ pos 3 ∷ []);
+  sheet = encode 1 0 1 1 2 (0 ∶ neg 2 ∷ 128 ∶ pos 3 ∷ []);
   room = 27;
   answer = Plan (neg 6) (pos 0);
   bytes = hex "0100 0000 0200 faffffffffffffff 0000000000000000 06000000";
@@ -102,7 +101,7 @@ C8 = record {
 -- a least amount
 abbrev pub C9 : Row
 C9 = record {
-  sheet = written 1 0 1 1 1 (0 ∶ pos 5 ∷ 64 ∶ pos 4 ∷ 128 ∶ pos 4 ∷ []);
+  sheet = encode 1 0 1 1 1 (0 ∶ pos 5 ∷ 64 ∶ pos 4 ∷ 128 ∶ pos 4 ∷ []);
   room = 26;
   answer = Plan (pos 20) (pos 0);
   bytes = hex "0100 0000 0100 1400000000000000 0000000000000000 04000000";
@@ -112,7 +111,7 @@ C9 = record {
 -- least above most
 abbrev pub C10 : Row
 C10 = record {
-  sheet = written 1 0 1 1 1 (64 ∶ pos 4 ∷ 128 ∶ pos 3 ∷ []);
+  sheet = encode 1 0 1 1 1 (64 ∶ pos 4 ∷ 128 ∶ pos 3 ∷ []);
   room = 26;
   answer = Refused (record { place = 0; cause = Bounds });
   bytes = [];
@@ -137,7 +136,7 @@ pub multipliers-C1 : map (λ t. at (stateAfter problem-C1 t .multipliers) 0) (0 
 unfolding Holds
 multipliers-C1 = refl
 
-pub values-C1 : map (λ t. stepAt problem-C1 t .dualValue) (0 ∷ 1 ∷ 2 ∷ 3 ∷ []) ≡ pos 0 ∷ pos 104 ∷ pos 68 ∷ pos 0 ∷ []
+pub values-C1 : map (λ t. lookAt problem-C1 t .dualValue) (0 ∷ 1 ∷ 2 ∷ 3 ∷ []) ≡ pos 0 ∷ pos 104 ∷ pos 68 ∷ pos 0 ∷ []
 unfolding Holds
 values-C1 = refl
 
@@ -149,7 +148,7 @@ tie-C1 = refl
 abbrev problem-C3 : Problem
 problem-C3 = problem (sheetOf (C3 .sheet))
 
-pub value-C3 : stepAt problem-C3 1 .dualValue ≡ pos 21
+pub value-C3 : lookAt problem-C3 1 .dualValue ≡ pos 21
 unfolding Holds
 value-C3 = refl
 

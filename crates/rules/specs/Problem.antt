@@ -2,7 +2,7 @@
 use Prim.Native.Nat.{ℕ, _<_}
 use lib.IntN.{ℤ, pos, _*ℤ_}
 use lib.Signed.{_≤ℤ_, _<ℤ_}
-use Rattle.integer.specs.Sum.{sumTo}
+use Rattle.rules.specs.Notation.{sumTo}
 
 -- n materials and m limits, the step length p/D, and the figures of material j and limit i
 pub record Problem : Type 0 where
@@ -23,7 +23,7 @@ pub record Problem : Type 0 where
   -- a_ij
   pub coefficient : ℕ → ℕ → ℤ
   -- b_i
-  pub bound : ℕ → ℤ
+  pub rhs : ℕ → ℤ
 
 module _ (P : Problem) where
   -- the cost of amounts x: Σ_j c_j·x_j
@@ -39,7 +39,7 @@ pub record Feasible (P : Problem) (d : ℤ) (y : ℕ → ℤ) : Type 0 where
   pub divisor : pos 0 <ℤ d
   pub above : (j : ℕ) → j < P .materials → (d *ℤ P .least j) ≤ℤ y j
   pub below : (j : ℕ) → j < P .materials → y j ≤ℤ (d *ℤ P .most j)
-  pub within : (i : ℕ) → i < P .limits → loadOf P y i ≤ℤ (d *ℤ P .bound i)
+  pub within : (i : ℕ) → i < P .limits → loadOf P y i ≤ℤ (d *ℤ P .rhs i)
 
 -- there is none
 abbrev pub NoneFeasible : Problem → Type 0

@@ -3,34 +3,32 @@ use Prim.Native.Nat.{ℕ, zero, suc, _+_, _*_}
 use mathlib.Core.Bool.{Bool, cond, _&&_}
 use mathlib.Core.List.{List, [], _∷_}
 use lib.ListN.{getD}
-use lib.IntN.{ℤ, pos, negℤ}
+use lib.IntN.{ℤ, pos}
 use lib.Signed.{leZ}
 use lib.Dec.{leb, eqb}
+use Rattle.rules.specs.Notation.{neg}
 use Rattle.rules.specs.declared.Kind.{Kind}
-use Rattle.rules.specs.declared.Kind.the-variants.{Cost, Least, Most, Coefficient, Bound}
+use Rattle.rules.specs.declared.Kind.the-variants.{Cost, Least, Most, Coefficient, Rhs}
 use Rattle.rules.specs.declared.Range.{Range}
 
--- −n
-abbrev pub neg : ℕ → ℤ
-neg n = negℤ (pos n)
-
-infix 70 _to_
-abbrev pub _to_ : ℤ → ℤ → Range
-least to greatest = record { least = least; greatest = greatest }
+-- a row of the table: a kind of figure, its least and its greatest value
+infix 70 _from_to_
+abbrev pub _from_to_ : Kind → ℤ → ℤ → Range
+kind from least to greatest = record { kind = kind; least = least; greatest = greatest }
 
 -- The table of ranges.
 unfoldable pub ranges : List Range
 ranges =
     -- row 0: cost
-    neg 10000 to pos 10000 ∷
+    Cost from neg 10000 to pos 10000 ∷
     -- row 1: least amount
-    pos 1 to pos 1000 ∷
+    Least from pos 1 to pos 1000 ∷
     -- row 2: most amount
-    pos 1 to pos 1000 ∷
+    Most from pos 1 to pos 1000 ∷
     -- rows 3 to m+2, columns 0 to n−1: a of limit row−3
-    neg 1000 to pos 1000 ∷
+    Coefficient from neg 1000 to pos 1000 ∷
     -- rows 3 to m+2, column n: b of limit row−3
-    neg 32000000 to pos 32000000 ∷
+    Rhs from neg 32000000 to pos 32000000 ∷
     []
 
 -- where a kind of figure stands in the table
@@ -39,18 +37,18 @@ indexOf Cost = 0
 indexOf Least = 1
 indexOf Most = 2
 indexOf Coefficient = 3
-indexOf Bound = 4
+indexOf Rhs = 4
 
 -- the range of a kind of figure
 unfoldable pub rangeOf : Kind → Range
-rangeOf kind = getD ranges (indexOf kind) (pos 0 to pos 0)
+rangeOf kind = getD ranges (indexOf kind) (kind from pos 0 to pos 0)
 
 -- the row decides what a figure is: the kind at a row and a column, with n materials
 unfoldable pub kindAt : ℕ → ℕ → ℕ → Kind
 kindAt n zero column = Cost
 kindAt n (suc zero) column = Least
 kindAt n (suc (suc zero)) column = Most
-kindAt n (suc (suc (suc i))) column = cond (eqb column n) Bound Coefficient
+kindAt n (suc (suc (suc i))) column = cond (eqb column n) Rhs Coefficient
 
 -- does a value lie in a range?
 unfoldable pub inRange : Range → ℤ → Bool

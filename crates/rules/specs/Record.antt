@@ -5,7 +5,7 @@ use mathlib.Core.List.{List, [], _∷_, _++_}
 use lib.ListN.{length}
 use lib.IntN.{ℤ}
 use lib.Dec.{leb}
-use Rattle.integer.specs.Vector.{tabulate}
+use Rattle.rules.specs.Notation.{tabulate}
 use Rattle.rules.specs.Bytes.{unsignedAt, signedAt, unsignedBytes, signedBytes}
 use Rattle.rules.specs.Run.{Plan}
 
@@ -26,29 +26,51 @@ recordOf p =
     ++ fields 4 (p .multipliers)
     ++ fields 8 (p .residualTotals)
 
--- its length, with n materials and m limits
+-- ---- where a record has its fields, with n materials and m limits: each begins where the one before ends
+abbrev pub limitsAt : ℕ
+limitsAt = 2
+
+abbrev pub stepsAt : ℕ
+stepsAt = limitsAt + 2
+
+abbrev pub lowAt : ℕ
+lowAt = stepsAt + 2
+
+abbrev pub gapAt : ℕ
+gapAt = lowAt + 8
+
+abbrev pub sumsAt : ℕ
+sumsAt = gapAt + 8
+
+abbrev pub multipliersAt : ℕ → ℕ
+multipliersAt n = sumsAt + 4 * n
+
+abbrev pub totalsAt : ℕ → ℕ → ℕ
+totalsAt n m = multipliersAt n + 4 * m
+
+-- the length of a record
 unfoldable pub recordLength : ℕ → ℕ → ℕ
-recordLength n m = 22 + 4 * n + 12 * m
+recordLength n m = totalsAt n m + 8 * m
 
 -- the plan whose figures stand where a record has them
 unfoldable pub recorded : List ℕ → Plan
 recorded r =
     let n = unsignedAt 2 r 0 in
-    let m = unsignedAt 2 r 2 in
+    let m = unsignedAt 2 r limitsAt in
     record {
       materials = n;
       limits = m;
-      steps = unsignedAt 2 r 4;
-      low = signedAt 8 r 6;
-      gap = signedAt 8 r 14;
-      sums = tabulate n (λ j. signedAt 4 r (22 + 4 * j));
-      multipliers = tabulate m (λ i. signedAt 4 r (22 + 4 * n + 4 * i));
-      residualTotals = tabulate m (λ i. signedAt 8 r (22 + 4 * n + 4 * m + 8 * i));
+      steps = unsignedAt 2 r stepsAt;
+      low = signedAt 8 r lowAt;
+      gap = signedAt 8 r gapAt;
+      sums = tabulate n (λ j. signedAt 4 r (sumsAt + 4 * j));
+      multipliers = tabulate m (λ i. signedAt 4 r (multipliersAt n + 4 * i));
+      residualTotals = tabulate m (λ i. signedAt 8 r (totalsAt n m + 8 * i));
     }
 
 -- do bytes begin with all the figures of a record, of at most as many materials and limits as a sheet may have?
 unfoldable pub holdsRecord : List ℕ → Bool
 holdsRecord r =
     let n = unsignedAt 2 r 0 in
-    let m = unsignedAt 2 r 2 in
+    let m = unsignedAt 2 r limitsAt in
     leb n 32 && leb m 16 && leb (recordLength n m) (length r)

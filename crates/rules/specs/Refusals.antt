@@ -10,6 +10,7 @@ use lib.Dec.{ltb, leb, eqb}
 use Rattle.rules.specs.declared.Cause.{Cause}
 use Rattle.rules.specs.declared.Cause.the-variants.{Short, Dimensions, Length, Parameters, Key, Value, Bounds, Buffer, Infeasible, Diverged}
 use Rattle.rules.specs.declared.Refusal.{Refusal}
+use Rattle.rules.specs.declared.Verdict.{Verdict}
 use Rattle.rules.specs.Sheet.{Sheet, sheetOf, sheetLength, rowOf, columnOf, figure}
 use Rattle.rules.specs.Ranges.{rangeOf, kindAt, inRange, dimensionsInRange, parametersInRange}
 use Rattle.rules.specs.Record.{recordLength}
@@ -35,6 +36,11 @@ numberOf Diverged = 10
 -- what a refusal of the code stands for
 unfoldable pub numbered : Refusal → Numbered
 numbered r = record { number = numberOf (r .cause); place = r .place }
+
+-- what each verdict stands for: no refusal, or a refusal's number and place
+unfoldable pub refusalOf : Verdict → Option Numbered
+refusalOf Verdict.Passed = none
+refusalOf (Verdict.Refused r) = some (numbered r)
 
 -- a row of the table: the number, the place, and when it is given
 unfoldable pub refuse : ℕ → ℕ → Bool → Option Numbered

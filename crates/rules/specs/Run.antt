@@ -2,9 +2,9 @@
 use Prim.Native.Nat.{ℕ, zero, suc}
 use mathlib.Core.List.{List}
 use lib.IntN.{ℤ, pos, _-ℤ_, _*ℤ_}
-use Rattle.integer.specs.Vector.{at, tabulate}
+use Rattle.rules.specs.Notation.{tabulate, at}
 use Rattle.rules.specs.Problem.{Problem, costOf}
-use Rattle.rules.specs.Step.{State, Step, amount, dualValue, stepFrom, next}
+use Rattle.rules.specs.Step.{State, Look, amount, dualValue, lookFrom, next}
 
 -- The figures of a plan, as the record and the listing give them.
 pub record Plan : Type 0 where
@@ -42,13 +42,17 @@ module _ (P : Problem) where
   stateAfter zero = start
   stateAfter (suc t) = next P (stateAfter t)
 
-  -- step t
-  unfoldable pub stepAt : ℕ → Step
-  stepAt t = stepFrom P (stateAfter t)
+  -- the look at the multipliers after t steps: what step t works out
+  unfoldable pub lookAt : ℕ → Look
+  lookAt t = lookFrom P (stateAfter t)
 
-  -- gap: D times the cost of the sums, less k × low
-  unfoldable pub gapAfter : ℕ → ℤ
-  gapAfter k = let w = stateAfter k in pos (P .scale) *ℤ costOf P (at (w .sums)) -ℤ pos k *ℤ w .lowerBound
+  -- low after k steps: the largest dual value of steps 0 to k−1
+  unfoldable pub lowAfter : ℕ → ℤ
+  lowAfter k = stateAfter k .lowerBound
+
+  -- gap of a count of steps, a low and sums: D times the cost of the sums, less the count × low
+  unfoldable pub gapOf : ℕ → ℤ → (ℕ → ℤ) → ℤ
+  gapOf count low sums = pos (P .scale) *ℤ costOf P sums -ℤ pos count *ℤ low
 
   -- the plan after k steps
   unfoldable pub planAfter : ℕ → Plan
@@ -58,8 +62,8 @@ module _ (P : Problem) where
         materials = P .materials;
         limits = P .limits;
         steps = k;
-        low = w .lowerBound;
-        gap = gapAfter k;
+        low = lowAfter k;
+        gap = gapOf k (lowAfter k) (at (w .sums));
         sums = w .sums;
         multipliers = w .multipliers;
         residualTotals = w .residualTotals;

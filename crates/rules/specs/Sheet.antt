@@ -71,5 +71,5 @@ module _ (S : Sheet) where
     least = λ j. figure 1 j;
     most = λ j. figure 2 j;
     coefficient = λ i j. figure (3 + i) j;
-    bound = λ i. figure (3 + i) (S .materials);
+    rhs = λ i. figure (3 + i) (S .materials);
   }

@@ -21,6 +21,12 @@ pub struct Refusal {
     pub cause: Cause,
 }
 
+// What a test gives, of a sheet that is read or of a step: it is passed, or refused.
+pub enum Verdict {
+    Passed,
+    Refused(Refusal),
+}
+
 // The answer to a sheet: a plan's two figures, or a refusal.
 pub enum Answer {
     Plan { low: i64, gap: i64 },
@@ -33,11 +39,12 @@ pub enum Kind {
     Least,
     Most,
     Coefficient,
-    Bound,
+    Rhs,
 }
 
-// The least and the greatest value of a kind of figure.
+// A row of the table of ranges: a kind of figure, its least and its greatest value.
 pub struct Range {
+    pub kind: Kind,
     pub least: i32,
     pub greatest: i32,
 }

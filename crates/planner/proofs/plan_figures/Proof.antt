@@ -4,7 +4,7 @@ use borrow.Author.Needs.{needs}
 use borrow.Author.Tests.{lt-ltb, le-ltb}
 use Rattle.rules.specs.Record.{recordLength}
 use Rattle.rules.specs.Refusals.{numbered, numberOf}
-use Rattle.laws.specs.FirstPlace.{refuse-yes, refuse-no, given, handed-on}
+use Rattle.proof_laws.specs.FirstPlace.{refuse-yes, refuse-no, given, handed-on}
 use Rattle.planner.proofs.Ending.{ends-refused, ends-same}
 use Rattle.planner.proofs.plan_figures.Statement.{statement}
 use Rattle.planner.proofs.plan_figures.Tie as tie

@@ -4,10 +4,10 @@ use mathlib.Core.Option.{none}
 use borrow.Author.Needs.{needs}
 use native.Mathlib.Nat.{le-refl}
 use Rattle.rules.specs.Answers.{stepRefusal}
-use Rattle.figures.specs.Figures.{problemOf}
-use Rattle.method.specs.Arrays.{refusalOf, stepsTaken, arraysOf}
+use Rattle.sheet_figures.specs.Figures.{problemOf}
+use Rattle.run_steps.specs.Arrays.{refusalOf, stepsTaken, arraysOf}
 use Rattle.rules.specs.Run.{stateAfter}
-use Rattle.method.specs.Asked.{Reached}
+use Rattle.run_steps.specs.Asked.{Reached}
 use Rattle.planner.proofs.Ending.{ends-refused, ends-same}
 use Rattle.planner.proofs.plan_run.Statement.{statement}
 use Rattle.planner.proofs.plan_run.Tie as tie

@@ -8,12 +8,12 @@ use mir.Facts.{toZ-ofZ}
 use borrow.Author.Needs.{needs}
 use Rattle.rules.specs.Run.{planAfter}
 use Rattle.rules.specs.Record.{recordOf, recordLength}
-use Rattle.margins.specs.RunMagnitudes.{run-magnitudes}
-use Rattle.figures.specs.declared.Figures.{Figures}
-use Rattle.figures.specs.Figures.{problemOf}
-use Rattle.method.specs.declared.State.{State}
-use Rattle.method.specs.Arrays.{arraysOf}
-use Rattle.method.specs.Asked.{Reached}
+use Rattle.proof_margins.specs.RunMagnitudes.{run-magnitudes}
+use Rattle.sheet_figures.specs.declared.Figures.{Figures}
+use Rattle.sheet_figures.specs.Figures.{problemOf}
+use Rattle.run_steps.specs.declared.State.{State}
+use Rattle.run_steps.specs.Arrays.{arraysOf}
+use Rattle.run_steps.specs.Asked.{Reached}
 use Rattle.planner.proofs.Ending.{ends-planned, plan-held}
 use Rattle.planner.proofs.write_plan.Statement.{statement}
 use Rattle.planner.proofs.write_plan.Tie as tie

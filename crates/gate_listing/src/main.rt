@@ -1,0 +1,40 @@
+// Prints the listing of each sheet of standard input.
+//
+// A sheet comes in a frame: its length in 2 bytes, little-endian, and then its bytes. A frame that is cut short ends the run.
+//
+// `tests/compare` makes the sheets, and works out from document 01 what is to be printed.
+use batchplan_lib::batchplan_listing;
+use bytes_read::size_at;
+use libc::STDIN_FILENO;
+use libc::STDOUT_FILENO;
+
+// The room for a listing. It takes every listing.
+const ROOM: usize = 4096;
+
+// Prints the listing of a sheet.
+fn print_listing(sheet: &[u8]) {
+    let mut out = [0u8; ROOM];
+    let end = batchplan_listing(sheet, &mut out);
+    io::write_all(STDOUT_FILENO, &out[0..end]);
+}
+
+// Prints the listing of each sheet of the input.
+fn print_sheets(input: &[u8]) {
+    let mut at: usize = 0;
+    while input.len() - at >= 2 {
+        let start = at + 2;
+        let size = size_at(input, at);
+        if input.len() - start < size {
+            return;
+        }
+        let end = start + size;
+        print_listing(&input[start..end]);
+        at = end;
+    }
+}
+
+fn main() {
+    let mut input = io::large_buffer();
+    let length = io::read_full(STDIN_FILENO, &mut input);
+    print_sheets(&input[..length]);
+}

@@ -1,0 +1,133 @@
+// Prints what `planner::plan` answers to each sheet of standard input, and what it leaves in the buffer that it is lent, a line for each.
+//
+// A sheet comes in a frame: its length in 2 bytes, little-endian; its bytes; and the length of the buffer in 2 bytes. A frame that is cut
+// short, or that asks for a buffer of more than 400 bytes, ends the run.
+//
+// Before a plan, the byte at place i of the buffer is the last byte of 7 i + 3.
+//
+// The line of a plan is `plan`, low and gap. That of a refusal is `refused`, the number and the place. Then comes every byte of the buffer,
+// in two hexadecimal digits: the record, and the bytes that must stay as lent.
+//
+// `tests/planned` makes the frames, and works out from document 01 what is to be printed.
+use bytes_read::size_at;
+use libc::STDIN_FILENO;
+use libc::STDOUT_FILENO;
+use out_listing::number_of;
+use out_text::put_byte;
+use out_text::put_bytes;
+use out_text::put_integer;
+use out_text::put_number;
+use rules::Answer;
+use rules::Refusal;
+ghost use Prim.Native.Nat.{_≤_};
+
+// The longest buffer. The longest record has 342 bytes.
+const LENT: usize = 400;
+
+// The room for a line. A line takes less than 900 bytes.
+const ROOM: usize = 1024;
+
+// Each function from here to `put_hex` puts something at the end of the line, and answers the place after it.
+
+// A plan.
+fn put_plan(line: &mut [u8], low: i64, gap: i64) -> usize {
+    let named = put_bytes(line, 0, b"plan ");
+    let bounded = put_integer(line, named, low);
+    let parted = put_byte(line, bounded, b' ');
+    put_integer(line, parted, gap)
+}
+
+// A refusal.
+fn put_refused(line: &mut [u8], refusal: Refusal) -> usize {
+    let cause = refusal.cause;
+    let named = put_bytes(line, 0, b"refused ");
+    let numbered = put_number(line, named, number_of(cause) as u64);
+    let parted = put_byte(line, numbered, b' ');
+    put_number(line, parted, refusal.place as u64)
+}
+
+// An answer.
+fn put_answer(line: &mut [u8], answer: Answer) -> usize {
+    match answer {
+        Answer::Plan { low, gap } => put_plan(line, low, gap),
+        Answer::Refused(refusal) => put_refused(line, refusal),
+    }
+}
+
+// A byte in two hexadecimal digits.
+fn put_hex_byte(line: &mut [u8], at: usize, byte: u8) -> usize {
+    let mut digits = [0u8; 16];
+    let count = io::hex(byte as u64, 2, &mut digits);
+    put_bytes(line, at, &digits[..count])
+}
+
+// Bytes in hexadecimal, one after the other.
+fn put_hex(line: &mut [u8], at: usize, bytes: &[u8]) -> usize {
+    let mut end = at;
+    let mut i: usize = 0;
+    while i < bytes.len() {
+        end = put_hex_byte(line, end, bytes[i]);
+        i += 1;
+    }
+    end
+}
+
+// Writes a line that ends before a place.
+fn write_line(line: &[u8], end: usize) {
+    if end <= line.len() {
+        io::write_all(STDOUT_FILENO, &line[0..end]);
+    }
+}
+
+// What the buffer holds before a plan.
+fn fill(buffer: &mut [u8]) {
+    let mut i = 0;
+    while i < buffer.len() {
+        buffer[i] = ((7 * (i % 256) + 3) % 256) as u8;
+        i += 1;
+    }
+}
+
+// Plans a sheet, and prints its line.
+fn print_plan(sheet: &[u8], buffer: &mut [u8]) {
+    fill(buffer);
+    let mut line = [0u8; ROOM];
+    let answered = put_answer(&mut line, planner::plan(sheet, buffer));
+    let parted = put_byte(&mut line, answered, b' ');
+    let filled = put_hex(&mut line, parted, buffer);
+    let end = put_byte(&mut line, filled, b'\n');
+    write_line(&line, end);
+}
+
+// Lends a buffer of a length to the plan of a sheet.
+fn print_sheet(sheet: &[u8], lent: usize)
+    requires { ⌜ lent ≤ 400 ⌝ }
+{
+    let mut buffer = [0u8; LENT];
+    print_plan(sheet, &mut buffer[0..lent]);
+}
+
+// Prints the line of each frame of the input.
+fn print_frames(input: &[u8]) {
+    let mut at = 0;
+    while input.len() - at >= 2 {
+        let start = at + 2;
+        let size = size_at(input, at);
+        if input.len() - start < size + 2 {
+            return;
+        }
+        let end = start + size;
+        let lent = size_at(input, end);
+        if LENT < lent {
+            return;
+        }
+        print_sheet(&input[start..end], lent);
+        at = end + 2;
+    }
+}
+
+fn main() {
+    let mut input = io::large_buffer();
+    let length = io::read_full(STDIN_FILENO, &mut input);
+    print_frames(&input[..length]);
+}

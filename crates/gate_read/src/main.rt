@@ -1,0 +1,146 @@
+// Prints what `sheet_read::read_sheet` answers to each sheet of standard input, a line for each.
+//
+// A sheet comes in a frame: its length in 2 bytes, little-endian, and then its bytes. A frame that is cut short ends the run.
+//
+// The line of a refused sheet is `refused`, the number and the place. That of an accepted sheet is `accepted`, the sizes n, m, p, D and k,
+// and every figure that is not 0: costs, least amounts, most amounts, a and b, as ` c0=3`, ` l0=1`, ` u0=10`, ` a0,1=-2` and ` b0=-12`.
+// The arrays are looked at in every place, so that a figure in a wrong place shows.
+//
+// `tests/damaged` makes the sheets, and works out from document 01 what is to be printed.
+use bytes_read::size_at;
+use libc::STDIN_FILENO;
+use libc::STDOUT_FILENO;
+use out_listing::write_listing;
+use out_text::put_byte;
+use out_text::put_bytes;
+use out_text::put_integer;
+use out_text::put_number;
+use rules::Answer;
+use sheet_figures::Figures;
+use sheet_read::Reading;
+use sheet_read::Verdict;
+
+// The room for a line. A line with every figure takes less than 9,000 bytes.
+const ROOM: usize = 16384;
+
+// Each function from here to `put_reading` puts something at the end of the line, and answers the place after it.
+
+// A space and a size.
+fn put_size(line: &mut [u8], at: usize, size: usize) -> usize {
+    let parted = put_byte(line, at, b' ');
+    put_number(line, parted, size as u64)
+}
+
+// The place of a figure in its array. That of an a_ij, 32 i + j, is put as i and j.
+fn put_place(line: &mut [u8], at: usize, letter: u8, place: usize) -> usize {
+    if letter == b'a' {
+        let limit = put_number(line, at, (place / 32) as u64);
+        let comma = put_byte(line, limit, b',');
+        return put_number(line, comma, (place % 32) as u64);
+    }
+    put_number(line, at, place as u64)
+}
+
+// A figure. One of 0 is left out.
+fn put_figure(line: &mut [u8], at: usize, letter: u8, place: usize, value: i64) -> usize {
+    if value == 0 {
+        return at;
+    }
+    let parted = put_byte(line, at, b' ');
+    let named = put_byte(line, parted, letter);
+    let placed = put_place(line, named, letter, place);
+    let equals = put_byte(line, placed, b'=');
+    put_integer(line, equals, value)
+}
+
+// The figures of an array of 16 bits.
+fn put_figures(line: &mut [u8], at: usize, letter: u8, figures: &[i16]) -> usize {
+    let mut end = at;
+    let mut i: usize = 0;
+    while i < figures.len() {
+        end = put_figure(line, end, letter, i, figures[i] as i64);
+        i += 1;
+    }
+    end
+}
+
+// The right-hand sides b of the limits.
+fn put_rhs(line: &mut [u8], at: usize, rhs: &[i32]) -> usize {
+    let mut end = at;
+    let mut i: usize = 0;
+    while i < rhs.len() {
+        end = put_figure(line, end, b'b', i, rhs[i] as i64);
+        i += 1;
+    }
+    end
+}
+
+// The sizes of an accepted sheet.
+fn put_sizes(line: &mut [u8], f: Figures) -> usize {
+    let mut at = put_bytes(line, 0, b"accepted");
+    at = put_size(line, at, f.materials);
+    at = put_size(line, at, f.limits);
+    at = put_size(line, at, f.numerator);
+    at = put_size(line, at, f.scale);
+    put_size(line, at, f.steps)
+}
+
+// The figures of the materials.
+fn put_materials(line: &mut [u8], at: usize, f: Figures) -> usize {
+    let priced = put_figures(line, at, b'c', &f.cost);
+    let above = put_figures(line, priced, b'l', &f.least);
+    put_figures(line, above, b'u', &f.most)
+}
+
+// The line of an accepted sheet.
+fn put_accepted(line: &mut [u8], f: Figures) -> usize {
+    let sized = put_sizes(line, f);
+    let materials = put_materials(line, sized, f);
+    let coefficients = put_figures(line, materials, b'a', &f.coefficient);
+    let limits = put_rhs(line, coefficients, &f.rhs);
+    put_byte(line, limits, b'\n')
+}
+
+// The line of a reading. That of a refused sheet is its listing.
+fn put_reading(line: &mut [u8], reading: Reading) -> usize {
+    let verdict = reading.verdict;
+    match verdict {
+        Verdict::Accepted => put_accepted(line, reading.figures),
+        Verdict::Refused(refusal) => write_listing(Answer::Refused(refusal), b"", line),
+    }
+}
+
+// Writes a line that ends before a place.
+fn write_line(line: &[u8], end: usize) {
+    if end <= line.len() {
+        io::write_all(STDOUT_FILENO, &line[0..end]);
+    }
+}
+
+// Prints the line of a sheet.
+fn print_sheet(sheet: &[u8]) {
+    let mut line = [0u8; ROOM];
+    let end = put_reading(&mut line, sheet_read::read_sheet(sheet));
+    write_line(&line, end);
+}
+
+// Prints the line of each sheet of the input.
+fn print_sheets(input: &[u8]) {
+    let mut at = 0;
+    while input.len() - at >= 2 {
+        let start = at + 2;
+        let size = size_at(input, at);
+        if input.len() - start < size {
+            return;
+        }
+        let end = start + size;
+        print_sheet(&input[start..end]);
+        at = end;
+    }
+}
+
+fn main() {
+    let mut input = io::large_buffer();
+    let length = io::read_full(STDIN_FILENO, &mut input);
+    print_sheets(&input[..length]);
+}

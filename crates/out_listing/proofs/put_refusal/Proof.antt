@@ -1,0 +1,40 @@
+-- The word, the number, the place and the newline, one after the other.
+use mathlib.Core.Path.{_≡_, sym, ap, _∙_}
+use borrow.Author.Needs.{needs}
+use Rattle.rules.specs.Refusals.{numbered}
+use Rattle.rules.specs.Listing.{text, refusalText}
+use Rattle.out_text.specs.Laws.{puts-as, then}
+use Rattle.out_listing.specs.Laws.{refusal-line}
+use Rattle.out_listing.specs.TextLength.{length-refusal-text}
+use Rattle.out_listing.proofs.put_refusal.Statement.{statement}
+use Rattle.out_listing.proofs.put_refusal.Tie as tie
+
+returns : tie.Need-returns
+unfolding numbered text
+returns c =
+    let newline = c .before .before in
+    let placed = newline .before .before .before .before in
+    let numbered = placed .before .before .before .before in
+    let named = numbered .before .before .before .before .before in
+    let place = named .before .before .before .before .args .refusal .place in
+    let number = numbered .before .number-of in
+    let is : refusalText (record { number = number .result; place = place }) ≡ _ = ap (λ v. refusalText (record { number = v; place = place })) (number .ensures) in
+    record {
+      puts = puts-as
+          (refusal-line (number .result) place ∙ is)
+          (then (then (then (named .put-bytes .ensures) (numbered .put-size .ensures .0)) (placed .put-size2 .ensures .0)) (newline .put-byte .ensures));
+      short = rw (sym is) (length-refusal-text (record { number = number .result; place = place }) (numbered .put-size .ensures .1) (placed .put-size2 .ensures .1));
+    }
+
+pub put-refusal-spec : {M : Type 1} → statement M
+put-refusal-spec =
+    tie.close
+    (tie.spec
+    (λ c. search needs)
+    (λ c κs. search needs)
+    (λ c κs. search needs)
+    (λ c κs. search needs)
+    (λ c κs. search needs)
+    (λ c κs. search needs)
+    (λ c. search needs)
+    returns)

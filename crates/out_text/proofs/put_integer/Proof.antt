@@ -1,0 +1,102 @@
+-- Below 0, −1 − v is `mag v`, and the digits after the sign are those of one more. From 0 on, v is its own magnitude.
+use Prim.Native.Nat.{_+_, _<_}
+use mathlib.Core.Path.{_≡_, refl, _∙_}
+use mathlib.Core.Bool.{true, false}
+use mathlib.Core.List.{[], _∷_, _++_}
+use native.Mathlib.Numerals.{add-one}
+use native.Mathlib.Omega.{arith}
+use borrow.Author.Needs.{needs}
+use borrow.Author.Tests.{ltb-true}
+use lib.IntN.{ℤ, pos, negsuc, _-ℤ_}
+use lib.Signed.{ltZ, mag}
+use mir.Syntax.{w64}
+use mir.Val.{SFits, toZ, ofZ}
+use mir.Facts.{toZ-ofZ, toZ-pos}
+use Rattle.proof_integer.specs.Range.{below-zero}
+use Rattle.rules.specs.Listing.{text, decimal}
+use Rattle.out_text.specs.Laws.{then}
+use Rattle.out_text.proofs.put_integer.Statement.{statement}
+use Rattle.out_text.proofs.put_integer.Tie as tie
+
+-- what is below 0
+below-decimal : (z : ℤ) → ltZ z (pos 0) ≡ true → (45 ∷ []) ++ decimal (pos (mag z + 1)) ≡ decimal z
+unfolding decimal text
+below-decimal (pos n) h = let g : n < 0 = ltb-true n 0 h in absurd (omega arith)
+below-decimal (negsuc n) h = rw add-one
+
+-- what is not
+natural : (z : ℤ) → ltZ z (pos 0) ≡ false → z ≡ pos (mag z)
+natural (pos n) h = refl
+natural (negsuc n) h = cc
+
+-- ---- below 0
+module _ (c : tie.Then1) where
+  abbrev v : ℤ
+  v = c .before .before .args .v
+
+  abbrev fits : SFits w64 v
+  fits = c .before .before .fits .v
+
+  negative : ltZ v (pos 0) ≡ true
+  negative = simp (toZ-ofZ fits) at (c .if1 .taken)
+
+  -- −1 − v, and what its bits stand for
+  less : negsuc 0 -ℤ toZ w64 (ofZ w64 v) ≡ pos (mag v)
+  less = simp (toZ-ofZ fits) (below-zero v negative)
+
+  less-bits : toZ w64 (ofZ w64 (negsuc 0 -ℤ toZ w64 (ofZ w64 v))) ≡ pos (mag v)
+  less-bits = rw less (toZ-pos w64 (fits .sfits))
+
+sub-put-number : tie.Need-sub-put-number
+sub-put-number c = let n = c .before .before .before .before .before in rw (less n) (record { sfits = fits n .sfits })
+
+cast-put-number : tie.Need-cast-put-number
+cast-put-number c =
+    let n = c .before .before .before .before .before in
+    simp (less-bits n) (tt, record { fits = omega (arith, fits n .sfits) })
+
+add-put-number : tie.Need-add-put-number
+add-put-number c =
+    let n = c .before .before .before .before .before in
+    simp (less-bits n) (record { fits = omega (arith, fits n .sfits) })
+
+returns : tie.Need-returns
+returns c =
+    let number = c .before .before in
+    let sign = number .before .before .before .before in
+    let n = sign .before .before in
+    rw (below-decimal (v n) (negative n)) at (then (sign .put-byte .ensures) (simp (less-bits n) at (number .put-number .ensures)))
+
+-- ---- from 0 on
+module _ (c : tie.Else1) where
+  is-natural : c .before .before .args .v ≡ pos (mag (c .before .before .args .v))
+  is-natural = natural (c .before .before .args .v) (simp (toZ-ofZ (c .before .before .fits .v)) at (c .if1 .left))
+
+  own-bits : toZ w64 (ofZ w64 (c .before .before .args .v)) ≡ pos (mag (c .before .before .args .v))
+  own-bits = toZ-ofZ (c .before .before .fits .v) ∙ is-natural
+
+cast-put-number-2 : tie.Need-cast-put-number-2
+cast-put-number-2 c =
+    simp (own-bits (c .before)) (tt, record { fits = omega (arith, c .before .before .before .fits .v .sfits) })
+
+returns-2 : tie.Need-returns-2
+returns-2 c =
+    let number = c .before .before in
+    let n = number .before .before in
+    rw (← is-natural n) at (simp (own-bits n) at (number .put-number2 .ensures))
+
+pub put-integer-spec : {M : Type 1} → statement M
+put-integer-spec =
+    tie.close
+    (tie.spec
+    (λ c κs. search needs)
+    sub-put-number
+    cast-put-number
+    add-put-number
+    (λ c κs. search needs)
+    (search needs)
+    returns
+    cast-put-number-2
+    (λ c κs. search needs)
+    (search needs)
+    returns-2)

@@ -1,0 +1,139 @@
+-- How large the figures of a run become, as long as no step is refused: of every state, and of the step that it enters.
+-- Low lies from D times the cheapest to D times the greatest cost that the bounds allow.
+use mathlib.Core.Path.{_≡_}
+use mathlib.Core.Bool.{not}
+use mathlib.Core.List.{List}
+use mathlib.Core.Option.{none}
+use Prim.Native.Nat.{ℕ, zero, suc, _<_, _≤_}
+use native.Mathlib.Nat.{le-trans}
+use lib.Dec.{T, lit≤}
+use lib.IntN.{pos, _+ℤ_, _*ℤ_}
+use lib.Signed.{_≤ℤ_, ltZ-no, leZ-yes}
+use Rattle.proof_integer.specs.Order.{≤ℤ-trans, max-left, max-least}
+use Rattle.proof_integer.specs.Range.{Bnd, _b+_, _b-_, _b*_, bnd-of, bnd-between, between-bnd}
+use Rattle.proof_integer.specs.Sum.{sumTo-bnd}
+use Rattle.proof_integer.specs.Vector.{at-tabulate}
+use Rattle.rules.specs.Notation.{at}
+use Rattle.rules.specs.Problem.{Problem}
+use Rattle.rules.specs.Sheet.{sheetOf, problem}
+use Rattle.rules.specs.Step.{lookFrom, greatestCost, cheapestCost, infeasible, next, diverged}
+use Rattle.rules.specs.Run.{startingMultiplier, start, stateAfter, lookAt, lowAfter, gapOf}
+use Rattle.rules.specs.Refusals.{firstBelow, layoutRefusal}
+use Rattle.rules.specs.Answers.{refusalAt, stepRefusal}
+use Rattle.proof_magnitudes.specs.Minimal.{minimal-within}
+use Rattle.proof_magnitudes.specs.Opening.{at-zero}
+use Rattle.proof_magnitudes.specs.CostRange.{cheapestEnd, greatestEnd, cheapest-minimal, greatest-minimal, InCostRange, cost-in-range}
+use Rattle.proof_laws.specs.Places.{any-none}
+use Rattle.proof_laws.specs.NotRefused.{otherwise-none, refuse-none}
+use Rattle.proof_magnitudes.specs.Steps.{entering, amounts, residuals, residuals-are, rule-1, amounts-minimal, entering-sign, sums-are, totals-are}
+use Rattle.proof_magnitudes.specs.Accepted.{Accepted, accepted}
+use Rattle.proof_magnitudes.specs.Magnitudes.{Fits64, fit, CostMagnitudes, StepMagnitudes, amounts-bnd, cost-magnitudes, residual-bnd, step-magnitudes}
+
+-- The state after t steps, and what the gap is formed from.
+pub record StateMagnitudes (P : Problem) (t : ℕ) : Type 0 where
+  pub multiplier : (i : ℕ) → i < P .limits → Fits64 (entering P t i) 1073741824
+  pub sum : (j : ℕ) → j < P .materials → Fits64 (at (stateAfter P t .sums) j) 4096000
+  pub residual-total : (i : ℕ) → i < P .limits → Fits64 (at (stateAfter P t .residualTotals) i) 262144000000
+  pub low-range : InCostRange P (lowAfter P t)
+  pub low : Fits64 (lowAfter P t) 327680000000
+  -- the gap: D times the cost of the sums, less t × low
+  pub sums-cost : CostMagnitudes P (at (stateAfter P t .sums)) 4096000
+  pub counted-low : Fits64 (pos t *ℤ lowAfter P t) 1342177280000000
+  pub gap : Fits64 (gapOf P t (lowAfter P t) (at (stateAfter P t .sums))) 2684354560000000
+
+-- After t steps: the state, the step that it enters, and what that step adds to the totals.
+pub record RunMagnitudes (P : Problem) (t : ℕ) : Type 0 where
+  pub state : StateMagnitudes P t
+  pub step : StepMagnitudes P (entering P t) (amounts P t)
+  pub new-sum : (j : ℕ) → j < P .materials → Fits64 (at (stateAfter P t .sums) j +ℤ amounts P t j) 4097000
+  pub new-total : (i : ℕ) → i < P .limits → Fits64 (at (stateAfter P t .residualTotals) i +ℤ residuals P t i) 262208000000
+
+-- where steps 0 to t are not refused, neither are steps 0 to t−1, and step t meets neither rule 3 nor rule 4
+not-refused : (P : Problem) (t : ℕ) → stepRefusal P (suc t) ≡ none
+    → (stepRefusal P t ≡ none) × T (not (infeasible P (lookAt P t))) × T (not (diverged P (stateAfter P (suc t))))
+unfolding stepRefusal refusalAt firstBelow
+not-refused P t h =
+    let (before, here) = otherwise-none _ _ h in
+    let (nine, ten) = otherwise-none _ _ here in
+    (before, refuse-none _ _ _ nine, refuse-none _ _ _ ten)
+
+-- a step that does not meet rule 3 keeps low in the range of the costs
+low-next : (P : Problem) (t : ℕ) → InCostRange P (stateAfter P t .lowerBound) → T (not (infeasible P (lookAt P t)))
+    → InCostRange P (stateAfter P (suc t) .lowerBound)
+unfolding stateAfter next infeasible lookAt
+low-next P t r feasible = record { above = ≤ℤ-trans (r .above) (max-left _ _); below = max-least (r .below) (ltZ-no feasible) }
+
+module _ {P : Problem} {k : ℕ} (a : Accepted P k) where
+  -- ---- rule 4 keeps the multipliers at most 2³⁰
+  multiplier-top : (t : ℕ) → stepRefusal P t ≡ none → (i : ℕ) → i < P .limits → entering P t i ≤ℤ pos 1073741824
+  unfolding stateAfter start diverged
+  multiplier-top zero h i l = rw (at-tabulate (P .limits) (startingMultiplier P) i l) (a .start-top i l)
+  multiplier-top (suc t) h i l = ltZ-no (any-none (P .limits) _ (not-refused P t h .2) i l)
+
+  multiplier-bnd : (t : ℕ) → stepRefusal P t ≡ none → (i : ℕ) → i < P .limits → Bnd (entering P t i) 1073741824
+  multiplier-bnd t h i l = bnd-between (≤ℤ-trans (leZ-yes tt) (entering-sign P (a .start-sign) t i l)) (multiplier-top t h i l)
+
+  -- ---- low begins at D times the cost of amounts within the bounds, and rule 3 keeps it in the range of the costs
+  low-range : (t : ℕ) → stepRefusal P t ≡ none → InCostRange P (stateAfter P t .lowerBound)
+  unfolding stateAfter start startingMultiplier
+  low-range zero h = rw at-zero (cost-in-range P _ (minimal-within (a .ordered) (rule-1 P (startingMultiplier P))))
+  low-range (suc t) h = let (before, feasible, _) = not-refused P t h in low-next P t (low-range t before) feasible
+
+  low-bnd : (t : ℕ) → stepRefusal P t ≡ none → Bnd (stateAfter P t .lowerBound) 327680000000
+  unfolding cheapestCost greatestCost
+  low-bnd t h =
+      let r = low-range t h in
+      let cheapest = cost-magnitudes a (cheapestEnd P) (lit≤ tt) (amounts-bnd a (cheapest-minimal P)) in
+      let greatest = cost-magnitudes a (greatestEnd P) (lit≤ tt) (amounts-bnd a (greatest-minimal P)) in
+      bnd-between
+      (≤ℤ-trans (between-bnd (cheapest .scaled .magnitude) .0) (r .above))
+      (≤ℤ-trans (r .below) (between-bnd (greatest .scaled .magnitude) .1))
+
+  -- ---- the totals of at most k steps
+  module _ (t : ℕ) (few : t ≤ k) where
+    sums-bnd : (j : ℕ) → j < P .materials → Bnd (at (stateAfter P t .sums) j) 4096000
+    sums-bnd j l = rw (sums-are P t j l) (sumTo-bnd {N = 4096} t _ (le-trans few (a .steps-few)) (λ s _. amounts-bnd a (amounts-minimal P s) j l))
+
+    totals-bnd : (i : ℕ) → i < P .limits → Bnd (at (stateAfter P t .residualTotals) i) 262144000000
+    totals-bnd i l =
+        rw (totals-are P t i l)
+        (sumTo-bnd {N = 4096} t _ (le-trans few (a .steps-few)) (λ s _. residual-bnd a (amounts P s) (amounts-bnd a (amounts-minimal P s)) i l))
+
+    sums-cost-magnitudes : CostMagnitudes P (at (stateAfter P t .sums)) 4096000
+    sums-cost-magnitudes = cost-magnitudes a (at (stateAfter P t .sums)) (lit≤ tt) sums-bnd
+
+    counted-low-bnd : stepRefusal P t ≡ none → Bnd (pos t *ℤ stateAfter P t .lowerBound) 1342177280000000
+    counted-low-bnd h = bnd-of (pos t) (le-trans few (a .steps-few)) b* low-bnd t h
+
+    state-magnitudes : stepRefusal P t ≡ none → StateMagnitudes P t
+    unfolding gapOf lowAfter
+    state-magnitudes h = record {
+      multiplier = λ i l. fit tt (multiplier-bnd t h i l);
+      sum = λ j l. fit tt (sums-bnd j l);
+      residual-total = λ i l. fit tt (totals-bnd i l);
+      low-range = low-range t h;
+      low = fit tt (low-bnd t h);
+      sums-cost = sums-cost-magnitudes;
+      counted-low = fit tt (counted-low-bnd h);
+      gap = fit tt (sums-cost-magnitudes .scaled .magnitude b- counted-low-bnd h);
+    }
+
+-- So it is after every number t of steps of an accepted problem, none of them refused ..
+pub run-magnitudes : {P : Problem} {k : ℕ} → Accepted P k → (t : ℕ) → t ≤ k → stepRefusal P t ≡ none → RunMagnitudes P t
+run-magnitudes {P} a t few h = record {
+  state = state;
+  step = step;
+  new-sum = λ j l. fit tt (state .sum j l .magnitude b+ step .amount j l .magnitude);
+  new-total = λ i l. rw (residuals-are P t i l) (fit tt (state .residual-total i l .magnitude b+ step .one-residual i l .magnitude));
+}
+  where
+    state : StateMagnitudes P t
+    state = state-magnitudes a t few h
+
+    step : StepMagnitudes P (entering P t) (amounts P t)
+    step = step-magnitudes a (entering P t) (amounts P t) (multiplier-bnd a t h) (amounts-bnd a (amounts-minimal P t))
+
+-- .. and so with the run of every sheet that is read.
+pub magnitudes : (sheet : List ℕ) → layoutRefusal sheet ≡ none
+    → (t : ℕ) → t ≤ sheetOf sheet .steps → stepRefusal (problem (sheetOf sheet)) t ≡ none → RunMagnitudes (problem (sheetOf sheet)) t
+magnitudes sheet read = run-magnitudes (accepted sheet read)

@@ -1,0 +1,66 @@
+-- The run of `rules` by its formulas: what the look at the multipliers after t steps gives, where they go, and what the totals add up.
+use mathlib.Core.Path.{_≡_, _∙_}
+use Prim.Native.Nat.{ℕ, zero, suc, _<_}
+use lib.IntN.{ℤ, pos, _+ℤ_}
+use lib.Signed.{_≤ℤ_}
+use Rattle.proof_integer.specs.Order.{max-left}
+use Rattle.proof_integer.specs.Vector.{at-tabulate}
+use Rattle.rules.specs.Notation.{sumTo, at}
+use Rattle.rules.specs.Problem.{Problem}
+use Rattle.rules.specs.Step.{reducedCost, amount, residual, lookFrom, moved, next}
+use Rattle.rules.specs.Run.{startingMultiplier, start, stateAfter, lookAt}
+use Rattle.proof_magnitudes.specs.Minimal.{AllMinimal, rule-minimal}
+
+module _ (P : Problem) where
+  -- the multipliers that enter step t, its amounts and its residuals
+  abbrev pub entering : ℕ → ℕ → ℤ
+  entering t = at (stateAfter P t .multipliers)
+
+  abbrev pub amounts : ℕ → ℕ → ℤ
+  amounts t = at (lookAt P t .amounts)
+
+  abbrev pub residuals : ℕ → ℕ → ℤ
+  residuals t = at (lookAt P t .residuals)
+
+  -- ---- what a step works out, by its formulas
+  amounts-are : (t j : ℕ) → j < P .materials → amounts t j ≡ amount P (entering t) j
+  unfolding lookAt lookFrom
+  amounts-are t j l = at-tabulate (P .materials) (amount P (entering t)) j l
+
+  pub residuals-are : (t i : ℕ) → i < P .limits → residuals t i ≡ residual P (amounts t) i
+  unfolding lookAt lookFrom
+  residuals-are t i l = at-tabulate (P .limits) (residual P (amounts t)) i l
+
+  pub leaving : (t i : ℕ) → i < P .limits → entering (suc t) i ≡ moved P (entering t) (residuals t) i
+  unfolding stateAfter next lookAt
+  leaving t i l = at-tabulate (P .limits) (moved P (entering t) (residuals t)) i l
+
+  -- ---- its amounts are minimal, by rule 1
+  pub rule-1 : (M : ℕ → ℤ) → AllMinimal P (reducedCost P M) (amount P M)
+  unfolding amount
+  rule-1 M j _ = rule-minimal (reducedCost P M j) (P .least j) (P .most j)
+
+  pub amounts-minimal : (t : ℕ) → AllMinimal P (reducedCost P (entering t)) (amounts t)
+  amounts-minimal t j l = rw (amounts-are t j l) (rule-1 (entering t) j l)
+
+  -- ---- the totals
+  pub sums-are : (k j : ℕ) → j < P .materials → at (stateAfter P k .sums) j ≡ sumTo k (λ t. amounts t j)
+  unfolding stateAfter start next sumTo lookAt
+  sums-are zero j l = at-tabulate (P .materials) (λ _. pos 0) j l
+  sums-are (suc k) j l = at-tabulate (P .materials) (λ j. at (stateAfter P k .sums) j +ℤ amounts k j) j l ∙ rw (sums-are k j l)
+
+  pub totals-are : (k i : ℕ) → i < P .limits → at (stateAfter P k .residualTotals) i ≡ sumTo k (λ t. residual P (amounts t) i)
+  unfolding stateAfter start next sumTo lookAt
+  totals-are zero i l = at-tabulate (P .limits) (λ _. pos 0) i l
+  totals-are (suc k) i l =
+      at-tabulate (P .limits) (λ i. at (stateAfter P k .residualTotals) i +ℤ residuals k i) i l ∙ rw (totals-are k i l, residuals-are k i l)
+
+-- no starting multiplier is negative
+abbrev pub StartSign : Problem → Type 0
+StartSign P = (i : ℕ) → i < P .limits → pos 0 ≤ℤ startingMultiplier P i
+
+-- and then none that enters a step
+pub entering-sign : (P : Problem) → StartSign P → (t i : ℕ) → i < P .limits → pos 0 ≤ℤ entering P t i
+unfolding stateAfter start moved
+entering-sign P start-sign zero i l = rw (at-tabulate (P .limits) (startingMultiplier P) i l) (start-sign i l)
+entering-sign P start-sign (suc t) i l = rw (leaving P t i l) (max-left (pos 0) _)

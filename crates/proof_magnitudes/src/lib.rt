@@ -1,0 +1,1 @@
+// How large the figures of a run become: this crate has no code, its content is specs/.

@@ -1,0 +1,90 @@
+-- After i turns the first i places hold their residuals.
+use mathlib.Core.Path.{_≡_, sym}
+use Prim.Native.Nat.{ℕ, _-_, _<_, _≤_}
+use native.Mathlib.Nat.{lt-of-lt-of-le}
+use native.Mathlib.Omega.{arith}
+use lib.IntN.{ℤ, _-ℤ_}
+use mir.Syntax.{w32}
+use mir.Val.{SFits}
+use mir.Facts.{toZ-ofZ}
+use borrow.Author.Needs.{needs}
+use Rattle.rules.specs.Notation.{at}
+use Rattle.rules.specs.Problem.{Problem, loadOf}
+use Rattle.rules.specs.Step.{residual}
+use Rattle.sheet_figures.specs.Padded.{filled, fill-start, fill-next, fill-end}
+use Rattle.run_look.specs.Given.{limitsOnly}
+use Rattle.run_look.proofs.residuals.Statement.{statement}
+use Rattle.run_look.proofs.residuals.Tie as tie
+
+abbrev Inv-loop : tie.InvT-loop
+Inv-loop n m coefficient rhs amounts g₀ i₀ g i = (i ≤ m) × (g ≡ filled 16 (residual (limitsOnly n m coefficient rhs) (at amounts)) i)
+
+abbrev μ-loop : tie.MeasureT-loop
+μ-loop n m coefficient rhs amounts g₀ i₀ g i = m - i
+
+loop-holds : tie.Need-loop-holds Inv-loop μ-loop
+loop-holds c = (omega arith, sym (fill-start 16 _))
+
+load-requires : tie.Need-load-requires Inv-loop μ-loop
+load-requires c κs =
+    let s = c .before .before in
+    let l : c .before .loop .i < s .args .m = omega arith in
+    (s .pre .narrow, (lt-of-lt-of-le l (s .pre .few), s .pre .load (c .before .loop .i) l))
+
+-- in a turn, with the load and b
+module _ (c : tie.After-g Inv-loop μ-loop) where
+  abbrev s : tie.Start Inv-loop μ-loop
+  s = c .before .before .before .before
+
+  abbrev i : ℕ
+  i = c .before .before .before .loop .i
+
+  abbrev P : Problem
+  P = limitsOnly (s .args .n) (s .args .m) (s .args .coefficient .now) (s .args .rhs .now)
+
+  abbrev x : ℕ → ℤ
+  x = at (s .args .amounts .now)
+
+  load-result : SFits w32 (c .before .load .result)
+  load-result = search needs
+
+  rhs-fits : SFits w32 (at (s .args .rhs .now) i)
+  rhs-fits = search needs
+
+  residual-is : c .before .load .result -ℤ at (s .args .rhs .now) i ≡ residual P x i
+  unfolding residual loadOf
+  residual-is = λ k. c .before .load .ensures k -ℤ at (s .args .rhs .now) i
+
+  residual-fits : SFits w32 (residual P x i)
+  residual-fits = s .pre .whole i (omega arith)
+
+sub-g : tie.Need-sub-g Inv-loop μ-loop
+sub-g c = simp (toZ-ofZ (load-result c), toZ-ofZ (rhs-fits c), residual-is c) (residual-fits c)
+
+loop-again : tie.Need-loop-again Inv-loop μ-loop
+loop-again c = (
+  omega arith,
+  fill-next 16 _ (omega (arith, s c .pre .few)) (c .before .before .before .loop .inv .1)
+      (simp (toZ-ofZ (load-result c), toZ-ofZ (rhs-fits c), residual-is c, toZ-ofZ (residual-fits c))),
+)
+
+returns : tie.Need-returns Inv-loop μ-loop
+returns c = fill-end 16 _ (omega arith) (c .before .loop .inv .1)
+
+pub residuals-spec : {M : Type 1} → statement M
+residuals-spec =
+    tie.close
+    (tie.spec
+    Inv-loop
+    μ-loop
+    loop-holds
+    load-requires
+    (search needs)
+    (search needs)
+    sub-g
+    (search needs)
+    (search needs)
+    (search needs)
+    (search needs)
+    loop-again
+    returns)

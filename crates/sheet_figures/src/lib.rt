@@ -1,0 +1,25 @@
+// A sheet's figures in arrays, for the code. What stands at which place is said in specs/.
+
+// Places from n and from m on hold 0.
+pub struct Figures {
+    // n
+    pub materials: usize,
+    // m
+    pub limits: usize,
+    // p, the step numerator
+    pub numerator: usize,
+    // D, the scale
+    pub scale: usize,
+    // k, the step count
+    pub steps: usize,
+    // c_j at place j
+    pub cost: [i16; 32],
+    // l_j at place j
+    pub least: [i16; 32],
+    // u_j at place j
+    pub most: [i16; 32],
+    // a_ij at place 32 i + j
+    pub coefficient: [i16; 512],
+    // b_i at place i
+    pub rhs: [i32; 16],
+}

@@ -1,0 +1,51 @@
+-- The product is formed where n and m lie in their ranges, and is small then.
+use Prim.Native.Nat.{ℕ, _+_, _*_, _≤_, zero-le}
+use mathlib.Core.Path.{_≡_, refl}
+use mathlib.Core.Bool.{true, _&&_, and-eq-true-iff}
+use native.Mathlib.Omega.{arith}
+use borrow.Author.Needs.{needs}
+use borrow.Author.Tests.{le-leb, leb-true}
+use Rattle.rules.specs.Ranges.{between, dimensionsInRange}
+use Rattle.proof_laws.specs.Sizes.{few-entries}
+use Rattle.sheet_ranges.proofs.dimensions_in_range.Statement.{statement}
+use Rattle.sheet_ranges.proofs.dimensions_in_range.Tie as tie
+
+-- n and m in their ranges leave so few entries that no sum wraps
+few : (n m : ℕ) → (between 1 32 n && between 0 16 m) ≡ true → n * (m + 3) + m ≤ 624
+unfolding between
+few n m h =
+    let both = simp and-eq-true-iff at h in
+    few-entries (omega (arith, leb-true)) (omega (arith, leb-true))
+
+-- the test that the code has passed, as the definition has it
+passed : (c : tie.Then1) → let a = c .before .before .before .args in (between 1 32 (a .n) && between 0 16 (a .m)) ≡ true
+passed c = rw (c .before .before .between .ensures, c .before .between2 .ensures) at (c .if1 .taken)
+
+add-result : tie.Need-add-result
+add-result c = omega (arith, few _ _ (passed c))
+
+mul-result : tie.Need-mul-result
+mul-result c = omega (arith, few _ _ (passed c))
+
+add-result-2 : tie.Need-add-result-2
+add-result-2 c = omega (arith, few _ _ (passed c))
+
+returns : tie.Need-returns
+unfolding dimensionsInRange between
+returns c = rw (passed c, le-leb 0 (c .before .before .before .args .e) zero-le) refl
+
+returns-2 : tie.Need-returns-2
+unfolding dimensionsInRange
+returns-2 c = rw (← c .before .before .between .ensures, ← c .before .between2 .ensures, c .if1 .left)
+
+pub dimensions-in-range-spec : {M : Type 1} → statement M
+dimensions-in-range-spec =
+    tie.close
+    (tie.spec
+    (search needs)
+    (search needs)
+    add-result
+    mul-result
+    add-result-2
+    returns
+    returns-2)

@@ -1,0 +1,143 @@
+// The table of ranges, held as constants, and what a row and a column mean. Whoever reads, writes or edits a sheet consults these.
+ghost use Prim.Native.Nat.{_<_};
+ghost use mathlib.Core.Path.{_≡_};
+ghost use mathlib.Core.Bool.{_||_};
+ghost use lib.Dec.{ltb, eqb};
+ghost use Rattle.rules.specs.Ranges.{indexOf, rangeOf, inRange, between, dimensionsInRange, parametersInRange, kindAt};
+ghost use Rattle.sheet_ranges.specs.Meaning.{FewLimits, meaningOf, meaningAt};
+ghost use Rattle.sheet_ranges.specs.Read.{unless};
+use rules::Kind;
+use rules::Range;
+
+// The table, in the order of document 01.
+const RANGES: [Range; 5] = [
+    // row 0: cost
+    Range {
+        least: -10000,
+        greatest: 10000,
+    },
+    // row 1: least amount
+    Range {
+        least: 1,
+        greatest: 1000,
+    },
+    // row 2: most amount
+    Range {
+        least: 1,
+        greatest: 1000,
+    },
+    // rows 3 to m+2, columns 0 to n-1: a of limit row-3
+    Range {
+        least: -1000,
+        greatest: 1000,
+    },
+    // rows 3 to m+2, column n: b of limit row-3
+    Range {
+        least: -32000000,
+        greatest: 32000000,
+    },
+];
+
+// What stands at a row and a column of a sheet.
+pub enum Meaning {
+    Figure(Kind),
+    Nothing,
+}
+
+// Where a kind of figure stands in the table.
+fn index_of(kind: Kind) -> usize
+    ensures { λ r. ⌜ (r ≡ indexOf kind) × (r < 5) ⌝ }
+{
+    match kind {
+        Kind::Cost => 0,
+        Kind::Least => 1,
+        Kind::Most => 2,
+        Kind::Coefficient => 3,
+        Kind::Rhs => 4,
+    }
+}
+
+// The range of a kind of figure.
+pub fn range_of(kind: Kind) -> Range
+    ensures { λ r. ⌜ r ≡ rangeOf kind ⌝ }
+{
+    RANGES[index_of(kind)]
+}
+
+// Whether a value lies in the range of its kind.
+pub fn in_range(kind: Kind, value: i32) -> bool
+    ensures { λ r. ⌜ r ≡ inRange (rangeOf kind) value ⌝ }
+{
+    let range = range_of(kind);
+    let least = range.least;
+    let greatest = range.greatest;
+    (least <= value) & (value <= greatest)
+}
+
+// Whether a size lies from its least to its greatest.
+fn between(least: usize, greatest: usize, size: usize) -> bool
+    ensures { λ r. ⌜ r ≡ between least greatest size ⌝ }
+{
+    (least <= size) & (size <= greatest)
+}
+
+// Whether n, m and e lie in their ranges. The product is formed where n and m do.
+pub fn dimensions_in_range(n: usize, m: usize, e: usize) -> bool
+    ensures { λ r. ⌜ r ≡ dimensionsInRange n m e ⌝ }
+{
+    if between(1, 32, n) & between(0, 16, m) {
+        return e <= n * (m + 3) + m;
+    }
+    false
+}
+
+// Whether p, D and k lie in their ranges.
+pub fn parameters_in_range(p: usize, d: usize, k: usize) -> bool
+    ensures { λ r. ⌜ r ≡ parametersInRange p d k ⌝ }
+{
+    between(1, 1024, p) & between(1, 1024, d) & between(1, 4096, k)
+}
+
+// A figure of a material stands in the columns below n.
+fn of_material(kind: Kind, n: usize, column: usize) -> Meaning
+    ensures { λ r. ⌜ meaningOf r ≡ unless 5 (ltb n column || eqb column n) kind ⌝ }
+{
+    if n <= column {
+        Meaning::Nothing
+    } else {
+        Meaning::Figure(kind)
+    }
+}
+
+// In a limit's row, its coefficients stand in the columns below n, and its right-hand side in column n.
+fn of_limit(n: usize, column: usize) -> Meaning
+    ensures { λ r. ⌜ meaningOf r ≡ unless 5 (ltb n column) (kindAt n 3 column) ⌝ }
+{
+    if column < n {
+        return Meaning::Figure(Kind::Coefficient);
+    }
+    if column == n {
+        return Meaning::Figure(Kind::Rhs);
+    }
+    Meaning::Nothing
+}
+
+// What stands at a row and a column, with n materials and m limits: the row decides what a figure means.
+pub fn meaning_at(n: usize, m: usize, row: usize, column: usize) -> Meaning
+    requires { ⌜ FewLimits m ⌝ }
+    ensures { λ r. ⌜ meaningOf r ≡ meaningAt n m row column ⌝ }
+{
+    match row {
+        0 => of_material(Kind::Cost, n, column),
+        1 => of_material(Kind::Least, n, column),
+        2 => of_material(Kind::Most, n, column),
+        3..=18 => {
+            if row <= m + 2 {
+                of_limit(n, column)
+            } else {
+                Meaning::Nothing
+            }
+        }
+        _ => Meaning::Nothing,
+    }
+}

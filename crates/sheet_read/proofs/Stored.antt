@@ -1,0 +1,160 @@
+-- The arrays while the entries are read: after e entries, the array of a kind holds what the first e entries say, and one entry more changes
+-- one place of one array.
+use mathlib.Core.Path.{_≡_, refl, sym, ap, _∙_, transport}
+use mathlib.Core.Bool.{Bool, true, false, cond}
+use mathlib.Core.List.{List}
+use Prim.Native.Nat.{ℕ, zero, suc, _+_, _*_, _≤_}
+use native.Mathlib.Omega.{arith}
+use native.Mathlib.Numerals.{add-one}
+use borrow.Author.Tests.{eqb-true, eqb-false, eq-eqb, ne-eqb}
+use lib.Dec.{eqb}
+use lib.IntN.{ℤ, pos}
+use lib.ListN.{set, replicate}
+use Rattle.rules.specs.declared.Kind.{Kind}
+use Rattle.rules.specs.declared.Kind.the-variants.{Cost, Least, Most, Coefficient, Rhs}
+use Rattle.rules.specs.Sheet.{Sheet, rowOf, columnOf, valueUnder, figure, problem}
+use Rattle.rules.specs.Ranges.{indexOf, kindAt}
+use Rattle.rules.specs.Refusals.{noFigureAt, badValue}
+use Rattle.proof_laws.specs.Entries.{FigureAt, figure-at, key-parts, parts-key, good-value}
+use Rattle.sheet_figures.specs.Arrays.{placed-cong, placed-set, placed-zero}
+use Rattle.sheet_figures.specs.declared.Figures.{Figures}
+use Rattle.sheet_figures.specs.Figures.{figuresOf}
+use Rattle.sheet_figures.specs.Arrays as figures
+use Rattle.sheet_ranges.specs.Read.{gives, gives-says}
+use Rattle.sheet_entries.specs.EntryRead.{Placed, placeOf, entryPlaced, entryRead}
+use Rattle.sheet_entries.specs.Store.{Storable, roomOf, storeIf, fits}
+use Rattle.sheet_read.specs.Passes.{hasFigure, rowAt, columnAt, arrayAfter}
+use Rattle.sheet_read.proofs.Entry.{value-test}
+use Rattle.sheet_read.proofs.Places.{back, there}
+
+-- ---- one entry more
+-- a kind is known by its place in the table of ranges
+kindOf : ℕ → Kind
+kindOf zero = Cost
+kindOf (suc zero) = Least
+kindOf (suc (suc zero)) = Most
+kindOf (suc (suc (suc zero))) = Coefficient
+kindOf (suc (suc (suc (suc i)))) = Rhs
+
+kind-index : (kind : Kind) → kindOf (indexOf kind) ≡ kind
+unfolding indexOf kindOf
+kind-index Cost = refl
+kind-index Least = refl
+kind-index Most = refl
+kind-index Coefficient = refl
+kind-index Rhs = refl
+
+module _ (S : Sheet) (i : ℕ) where
+  abbrev n : ℕ
+  n = S .materials
+
+  abbrev m : ℕ
+  m = S .limits
+
+  abbrev row : ℕ
+  row = rowOf (S .key i)
+
+  abbrev column : ℕ
+  column = columnOf (S .key i)
+
+  abbrev kind : Kind
+  kind = kindAt n row column
+
+  abbrev place : ℕ
+  place = placeOf kind row column
+
+  abbrev keyAt : Kind → ℕ → ℕ
+  keyAt mine x = rowAt mine x * 64 + columnAt n mine x
+
+  -- a value stored under another key leaves what stands under this one
+  other-key : (key : ℕ) → (S .key i ≡ key → ⊥) → valueUnder S i key ≡ valueUnder S (i + 1) key
+  unfolding valueUnder
+  other-key key h = rw (add-one, ne-eqb (S .key i) key h)
+
+  this-key : (key : ℕ) → S .key i ≡ key → S .value i ≡ valueUnder S (i + 1) key
+  unfolding valueUnder
+  this-key key h = rw (add-one, eq-eqb (S .key i) key h)
+
+  module _ (narrow : n ≤ 32) (few : m ≤ 16) (good : FigureAt n m row column) where
+    -- the entry's key stands at its own place, and at no other
+    own-key : S .key i ≡ keyAt kind place
+    own-key = let t = there n m row column narrow few good in sym (rw (t .same-row, t .same-column) (parts-key (S .key i)))
+
+    own-place : (mine : Kind) (y : ℕ) → hasFigure n m mine y ≡ true → S .key i ≡ keyAt mine y → (mine ≡ kind) × (y ≡ place)
+    own-place mine y h e =
+        let b = back n m mine y h in
+        let (r, c) = key-parts (rowAt mine y) (columnAt n mine y) (omega arith) in
+        let k : kind ≡ mine = rw (e, r, c) (b .same-kind) in
+        (sym k, sym (rw (k, e, r, c) (b .same-place)))
+
+    -- its place and its value fit the array
+    storable : badValue S i ≡ false → Storable kind place (S .value i)
+    storable h = record { below = there n m row column narrow few good .below; fits = fits kind (S .value i) (good-value S i h) }
+
+    -- storing entry i changes the array of its kind ..
+    here : set (arrayAfter S kind i) place (S .value i) ≡ arrayAfter S kind (i + 1)
+    unfolding arrayAfter
+    here =
+        let t = there n m row column narrow few good in
+        ap (set (arrayAfter S kind i) place) (this-key (keyAt kind place) own-key)
+        ∙ placed-set (roomOf kind) (hasFigure n m kind) (λ x. valueUnder S i (keyAt kind x)) (λ x. valueUnder S (i + 1) (keyAt kind x))
+        (t .below) (t .figure) (λ y _ h other. other-key (keyAt kind y) (λ e. other (own-place kind y h e .1)))
+
+    -- .. and no other
+    elsewhere : (mine : Kind) → (mine ≡ kind → ⊥) → arrayAfter S mine i ≡ arrayAfter S mine (i + 1)
+    unfolding arrayAfter
+    elsewhere mine other =
+        placed-cong (roomOf mine) (hasFigure n m mine) (λ x. valueUnder S i (keyAt mine x)) (λ x. valueUnder S (i + 1) (keyAt mine x))
+        (λ y _ h. other-key (keyAt mine y) (λ e. other (own-place mine y h e .0)))
+
+    stored : (mine : Kind) → storeIf mine kind place (S .value i) (arrayAfter S mine i) ≡ arrayAfter S mine (i + 1)
+    unfolding storeIf
+    stored mine = by (eqb (indexOf mine) (indexOf kind)) refl
+      where
+        by : (b : Bool) → eqb (indexOf mine) (indexOf kind) ≡ b
+            → cond b (set (arrayAfter S mine i) place (S .value i)) (arrayAfter S mine i) ≡ arrayAfter S mine (i + 1)
+        by true e = let same : mine ≡ kind = sym (kind-index mine) ∙ ap kindOf (eqb-true _ _ e) ∙ kind-index kind in rw same here
+        by false e = elsewhere mine (λ same. eqb-false _ _ e (ap indexOf same))
+
+-- ---- an entry that was read: it fits its array, and storing it gives the arrays after it
+module _ (S : Sheet) (i : ℕ) (narrow : S .materials ≤ 32) (few : S .limits ≤ 16)
+    (there : noFigureAt (S .materials) (S .limits) (rowOf (S .key i)) (columnOf (S .key i)) ≡ false)
+    {p : Placed} (read : entryRead (S .materials) (S .limits) (S .key i) (S .value i) ≡ gives p) where
+  abbrev figure-is : FigureAt (S .materials) (S .limits) (rowOf (S .key i)) (columnOf (S .key i))
+  figure-is = figure-at (S .materials) (S .limits) (rowOf (S .key i)) (columnOf (S .key i)) there
+
+  says : (badValue S i ≡ false) × (entryPlaced (S .materials) (S .limits) (S .key i) (S .value i) ≡ p)
+  unfolding entryRead
+  says = rw (value-test S i there) at (gives-says 6 _ _ _ read)
+
+  pub entry-good : badValue S i ≡ false
+  entry-good = says .0
+
+  pub entry-fits : Storable (p .kind) (p .place) (p .value)
+  entry-fits = transport (λ j. let q = says .1 j in Storable (q .kind) (q .place) (q .value)) (storable S i narrow few figure-is entry-good)
+
+  pub entry-stored : (mine : Kind) {array : List ℤ} → array ≡ arrayAfter S mine i → storeIf mine (p .kind) (p .place) (p .value) array ≡ arrayAfter S mine (i + 1)
+  entry-stored mine e =
+      (λ j. let q = sym (says .1) j in storeIf mine (q .kind) (q .place) (q .value) (e j))
+      ∙ stored S i narrow few figure-is mine
+
+-- ---- before the first entry, and after the last
+pub none-stored : (S : Sheet) (kind : Kind) → arrayAfter S kind 0 ≡ replicate (roomOf kind) (pos 0)
+unfolding arrayAfter valueUnder
+none-stored S kind = placed-zero (roomOf kind) (hasFigure (S .materials) (S .limits) kind)
+
+-- the array of a kind among the figures
+abbrev pub arrayIn : Figures → Kind → List ℤ
+arrayIn F Cost = F .cost
+arrayIn F Least = F .least
+arrayIn F Most = F .most
+arrayIn F Coefficient = F .coefficient
+arrayIn F Rhs = F .rhs
+
+pub all-stored : (S : Sheet) (kind : Kind) → arrayAfter S kind (S .entries) ≡ arrayIn (figuresOf (problem S) (S .steps)) kind
+unfolding arrayAfter hasFigure rowAt columnAt roomOf figuresOf problem figure figures.row figures.rows
+all-stored S Cost = refl
+all-stored S Least = refl
+all-stored S Most = refl
+all-stored S Coefficient = refl
+all-stored S Rhs = refl

@@ -1,0 +1,113 @@
+-- The keys of the entries below i are good, and `floor` is the least key that entry i may have.
+use mathlib.Core.Path.{_≡_, refl, sym, ap, _∙_}
+use mathlib.Core.Bool.{false}
+use mathlib.Core.Option.{none}
+use Prim.Native.Nat.{ℕ, _+_, _-_, _≤_}
+use native.Mathlib.Omega.{arith}
+use borrow.Author.Needs.{needs}
+use Rattle.rules.specs.Sheet.{Sheet, sheetOf}
+use Rattle.rules.specs.Refusals.{numberOf, numbered, badKey}
+use Rattle.proof_laws.specs.FirstPlace.{first-start, first-end, scan, scan-more, scan-found}
+use Rattle.sheet_ranges.specs.Read.{unless, gives-says, refused-says}
+use Rattle.sheet_entries.specs.KeyRead.{keyOf, keyRead}
+use Rattle.sheet_read.specs.Reading.{refusalOf}
+use Rattle.sheet_read.specs.Passes.{keyRefusal}
+use Rattle.sheet_read.proofs.Header.{materials-is, limits-is, entries-is, in-range}
+use Rattle.sheet_read.proofs.Entry.{floorOf, floor-next, key-test}
+use Rattle.sheet_read.proofs.check_keys.Statement.{statement}
+use Rattle.sheet_read.proofs.check_keys.Tie as tie
+
+record Turn (S : Sheet) (e floor i : ℕ) : Type 0 where
+  within : i ≤ e
+  keys : scan 5 (badKey S) i ≡ none
+  floor-is : floor ≡ floorOf S i
+
+abbrev Inv-loop : tie.InvT-loop
+Inv-loop s n m e floor₀ i₀ floor i = Turn (sheetOf s) e floor i
+
+abbrev μ-loop : tie.MeasureT-loop
+μ-loop s n m e floor₀ i₀ floor i = e - i
+
+loop-holds : tie.Need-loop-holds Inv-loop μ-loop
+unfolding floorOf
+loop-holds c = record { within = omega arith; keys = first-start _; floor-is = refl }
+
+read-key-requires : tie.Need-read-key-requires Inv-loop μ-loop
+read-key-requires c κs = record { few = in-range (c .before .before .before .before .pre) .few }
+
+-- what was read is the key of entry i
+module _ (c : tie.After-read-key Inv-loop μ-loop) where
+  abbrev start : tie.Start Inv-loop μ-loop
+  start = c .before .before .before .before .before
+
+  abbrev S : Sheet
+  S = sheetOf (start .args .s .now)
+
+  abbrev i : ℕ
+  i = c .before .before .before .loop .i
+
+  abbrev turn : Turn S (start .args .sizes .entries) (c .before .before .before .loop .floor) i
+  turn = c .before .before .before .loop .inv
+
+  read-is : keyOf (c .read-key .result) ≡ unless 5 (badKey S i) (S .key i)
+  unfolding keyRead
+  read-is =
+      let h = start .pre in
+      c .read-key .ensures
+      ∙ (λ j. keyRead (materials-is h j) (limits-is h j) (turn .floor-is j) (c .before .size-at .ensures .is j))
+      ∙ (λ j. unless 5 (key-test S i j) (S .key i))
+
+returns : tie.Need-returns Inv-loop μ-loop
+unfolding refusalOf numbered numberOf keyRefusal keyOf
+returns c =
+    let a = c .before .before .before in
+    let bad = refused-says 5 5 _ _ (sym (read-is a) ∙ ap keyOf (c .before .enum-told .given .1)) in
+    ap refusalOf (c .refused .ensures)
+    ∙ sym (scan-found 5 (badKey (S a)) (S a .entries) (omega (arith, entries-is (start a .pre))) (turn a .keys) bad)
+
+-- the key is good
+good : (c : tie.After-known-told Inv-loop μ-loop) → let a = c .before .before .before in (badKey (S a) (i a) ≡ false) × (S a .key (i a) ≡ c .before .read .given .0 .0)
+unfolding keyOf
+good c = gives-says 5 _ _ _ (sym (read-is (c .before .before .before)) ∙ ap keyOf (c .before .read .given .1))
+
+add-floor : tie.Need-add-floor Inv-loop μ-loop
+add-floor c =
+    let size = c .before .before .before .before .size-at .ensures in
+    omega (arith, good c .1, size .is, size .small)
+
+loop-again : tie.Need-loop-again Inv-loop μ-loop
+loop-again c =
+    let a = c .before .before .before in
+    record {
+      within = omega arith;
+      keys = scan-more 5 (badKey (S a)) (turn a .keys) (good c .0);
+      floor-is = sym (floor-next (S a) (i a) ∙ ap (λ k. k + 1) (good c .1));
+    }
+
+returns-2 : tie.Need-returns-2 Inv-loop μ-loop
+unfolding refusalOf keyRefusal
+returns-2 c =
+    let s = c .before .before .before in
+    let all : c .before .loop .i ≡ sheetOf (s .args .s .now) .entries = omega (arith, entries-is (s .pre)) in
+    sym (first-end _ all (c .before .loop .inv .keys))
+
+pub check-keys-spec : {M : Type 1} → statement M
+check-keys-spec =
+    tie.close
+    (tie.spec
+    Inv-loop
+    μ-loop
+    loop-holds
+    (search needs)
+    (search needs)
+    (search needs)
+    read-key-requires
+    (search needs)
+    (search needs)
+    (search needs)
+    returns
+    add-floor
+    (search needs)
+    (search needs)
+    loop-again
+    returns-2)
