@@ -10,7 +10,7 @@ use Rattle.rules.specs.Notation.{neg, maxℤ, sumTo, at}
 use Rattle.rules.specs.Problem.{Problem, costOf, loadOf, Feasible, NoneFeasible}
 use Rattle.rules.specs.Sheet.{sheetOf, problem}
 use Rattle.rules.specs.Step.{anyBelow, reducedCost, dualValue}
-use Rattle.rules.specs.Run.{lookAt, planAfter}
+use Rattle.rules.specs.Run.{lookAfter, planAfter}
 use Rattle.rules.specs.Answers.{plan, answer}
 use Rattle.rules.specs.Margins.{square, PlanMargins, Margins}
 use Rattle.rules.specs.Rows.{_∶_, encode, Holds}
@@ -78,7 +78,7 @@ abbrev squares-left : ℤ
 squares-left = pos 2 *ℤ pos (P₂ .numerator) *ℤ pos 0 +ℤ norm² P₂ (at (planAfter P₂ 1 .multipliers))
 
 abbrev squares-right : ℤ
-squares-right = square (pos (P₂ .numerator)) *ℤ sumTo 1 (λ t. norm² P₂ (at (lookAt P₂ t .residuals)))
+squares-right = square (pos (P₂ .numerator)) *ℤ sumTo 1 (λ t. norm² P₂ (at (lookAfter P₂ t .residuals)))
 
 -- these are what the theorem claims of C2
 pub claims-C2 : (residual-left ≤ℤ residual-right) × (squares-left ≤ℤ squares-right)
@@ -160,6 +160,6 @@ pub residuals-below-opening : residual-left ≤ℤ entering P₂ 0 0 → ⊥
 unfolding Holds
 residuals-below-opening claim = claim .le
 
-pub squares-of-one-step-less : squares-left ≤ℤ (square (pos (P₂ .numerator)) *ℤ sumTo 0 (λ t. norm² P₂ (at (lookAt P₂ t .residuals)))) → ⊥
+pub squares-of-one-step-less : squares-left ≤ℤ (square (pos (P₂ .numerator)) *ℤ sumTo 0 (λ t. norm² P₂ (at (lookAfter P₂ t .residuals)))) → ⊥
 unfolding Holds
 squares-of-one-step-less claim = claim .le
