@@ -1,27 +1,25 @@
--- The problems that the functions speak of: each is lent some of the figures, and its problem has these and no others.
+-- The problems that have the figures which a function is lent and no others; and a look in arrays.
 use mathlib.Core.List.{List, []}
 use Prim.Native.Nat.{ℕ}
-use lib.IntN.{ℤ, pos, _+ℤ_, _*ℤ_}
-use Rattle.rules.specs.Notation.{sumTo}
-use Rattle.rules.specs.Problem.{Problem, costOf}
+use lib.IntN.{ℤ}
+use Rattle.rules.specs.Problem.{Problem}
+use Rattle.rules.specs.Step as step
+use Rattle.sheet_figures.specs.Padded.{padded}
 use Rattle.sheet_figures.specs.Figures.{problemIn}
+use Rattle.run_look.specs.declared.Look.{Look}
 
 -- all figures but b
-abbrev pub withoutBounds : (n m D : ℕ) → (c l u a : List ℤ) → Problem
-withoutBounds n m D c l u a = problemIn n m 0 D c l u a []
+abbrev pub withoutRhs : (n m D : ℕ) → (c l u a : List ℤ) → Problem
+withoutRhs n m D c l u a = problemIn n m 0 D c l u a []
 
 -- the limits: a and b
 abbrev pub limitsOnly : (n m : ℕ) → (a b : List ℤ) → Problem
 limitsOnly n m a b = problemIn n m 0 0 [] [] [] a b
 
--- the materials: costs and bounds
-abbrev pub materialsOnly : (n D : ℕ) → (c l u : List ℤ) → Problem
-materialsOnly n D c l u = problemIn n 0 0 D c l u [] []
-
--- the costs
-abbrev pub costsOnly : (n m D : ℕ) → List ℤ → Problem
-costsOnly n m D c = problemIn n m 0 D c [] [] [] []
-
--- the dual value, with residuals g that are worked out already: D·cost + Σ_i M_i·g_i
-unfoldable pub valueFrom : Problem → (M x g : ℕ → ℤ) → ℤ
-valueFrom P M x g = pos (P .scale) *ℤ costOf P x +ℤ sumTo (P .limits) (λ i. M i *ℤ g i)
+-- a look in arrays of 32 and 16 places: the places past n and m hold 0
+unfoldable pub lookIn : step.Look → Look
+lookIn q = record {
+  amounts = padded 32 (q .amounts);
+  residuals = padded 16 (q .residuals);
+  value = q .dualValue;
+}

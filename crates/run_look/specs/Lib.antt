@@ -1,5 +1,5 @@
--- What evaluating the dual function asks and gives.
---   Given   the problems that have the figures which a function is lent
---   Asked   what the functions ask
+-- What a look at multipliers asks and gives.
+--   Given   the problems that have the lent figures, and a look in arrays
+--   Fits    every term, part of a sum and result fits its width
 pub mod Given
-pub mod Asked
+pub mod Fits

@@ -1,7 +1,6 @@
 -- After i turns the first i places hold their residuals.
 use mathlib.Core.Path.{_≡_, sym}
 use Prim.Native.Nat.{ℕ, _-_, _<_, _≤_}
-use native.Mathlib.Nat.{lt-of-lt-of-le}
 use native.Mathlib.Omega.{arith}
 use lib.IntN.{ℤ, _-ℤ_}
 use mir.Syntax.{w32}
@@ -22,22 +21,23 @@ Inv-loop n m coefficient rhs amounts g₀ i₀ g i = (i ≤ m) × (g ≡ filled 
 abbrev μ-loop : tie.MeasureT-loop
 μ-loop n m coefficient rhs amounts g₀ i₀ g i = m - i
 
-loop-holds : tie.Need-loop-holds Inv-loop μ-loop
-loop-holds c = (omega arith, sym (fill-start 16 _))
-
-load-requires : tie.Need-load-requires Inv-loop μ-loop
-load-requires c κs =
-    let s = c .before .before in
-    let l : c .before .loop .i < s .args .m = omega arith in
-    (s .pre .narrow, (lt-of-lt-of-le l (s .pre .few), s .pre .load (c .before .loop .i) l))
+dot-32-requires : tie.Need-dot-32-requires Inv-loop μ-loop
+dot-32-requires c κs =
+    let loop = c .before .before in
+    let asked = loop .before .pre in
+    let here : loop .loop .i < loop .before .args .m = omega arith in
+    record { narrow = asked .narrow; inside = omega (arith, asked .narrow, asked .few); sum = asked .load (loop .loop .i) here }
 
 -- in a turn, with the load and b
 module _ (c : tie.After-g Inv-loop μ-loop) where
+  abbrev loop : tie.At-loop Inv-loop μ-loop
+  loop = c .before .before .before .before
+
   abbrev s : tie.Start Inv-loop μ-loop
-  s = c .before .before .before .before
+  s = loop .before
 
   abbrev i : ℕ
-  i = c .before .before .before .loop .i
+  i = loop .loop .i
 
   abbrev P : Problem
   P = limitsOnly (s .args .n) (s .args .m) (s .args .coefficient .now) (s .args .rhs .now)
@@ -45,31 +45,28 @@ module _ (c : tie.After-g Inv-loop μ-loop) where
   abbrev x : ℕ → ℤ
   x = at (s .args .amounts .now)
 
-  load-result : SFits w32 (c .before .load .result)
-  load-result = search needs
+  load-fits : SFits w32 (c .before .dot-32 .result)
+  load-fits = search needs
 
-  rhs-fits : SFits w32 (at (s .args .rhs .now) i)
+  rhs-fits : SFits w32 (P .rhs i)
   rhs-fits = search needs
 
-  residual-is : c .before .load .result -ℤ at (s .args .rhs .now) i ≡ residual P x i
+  residual-is : c .before .dot-32 .result -ℤ P .rhs i ≡ residual P x i
   unfolding residual loadOf
-  residual-is = λ k. c .before .load .ensures k -ℤ at (s .args .rhs .now) i
+  residual-is = λ k. c .before .dot-32 .ensures k -ℤ P .rhs i
 
   residual-fits : SFits w32 (residual P x i)
   residual-fits = s .pre .whole i (omega arith)
 
 sub-g : tie.Need-sub-g Inv-loop μ-loop
-sub-g c = simp (toZ-ofZ (load-result c), toZ-ofZ (rhs-fits c), residual-is c) (residual-fits c)
+sub-g c = simp (toZ-ofZ (load-fits c), toZ-ofZ (rhs-fits c), residual-is c) (residual-fits c)
 
 loop-again : tie.Need-loop-again Inv-loop μ-loop
 loop-again c = (
   omega arith,
-  fill-next 16 _ (omega (arith, s c .pre .few)) (c .before .before .before .loop .inv .1)
-      (simp (toZ-ofZ (load-result c), toZ-ofZ (rhs-fits c), residual-is c, toZ-ofZ (residual-fits c))),
+  fill-next 16 _ (omega (arith, s c .pre .few)) (loop c .loop .inv .1)
+      (simp (toZ-ofZ (load-fits c), toZ-ofZ (rhs-fits c), residual-is c, toZ-ofZ (residual-fits c))),
 )
-
-returns : tie.Need-returns Inv-loop μ-loop
-returns c = fill-end 16 _ (omega arith) (c .before .loop .inv .1)
 
 pub residuals-spec : {M : Type 1} → statement M
 residuals-spec =
@@ -77,8 +74,9 @@ residuals-spec =
     (tie.spec
     Inv-loop
     μ-loop
-    loop-holds
-    load-requires
+    (λ c. (omega arith, sym (fill-start 16 _)))
+    (search needs)
+    dot-32-requires
     (search needs)
     (search needs)
     sub-g
@@ -87,4 +85,4 @@ residuals-spec =
     (search needs)
     (search needs)
     loop-again
-    returns)
+    (λ c. fill-end 16 _ (omega arith) (c .before .loop .inv .1)))

@@ -1,0 +1,51 @@
+-- The problems that have the figures which a function is lent and no others; the ends that a cost's sign chooses; and what the functions ask.
+use mathlib.Core.List.{List, []}
+use Prim.Native.Nat.{ℕ, _≤_}
+use lib.IntN.{ℤ, pos, _*ℤ_}
+use mir.Syntax.{w32, w64}
+use mir.Val.{SFits}
+use Rattle.proof_integer.specs.Range.{Bnd}
+use Rattle.rules.specs.Problem.{Problem, costOf}
+use Rattle.rules.specs.Run.{gapOf}
+use Rattle.sheet_figures.specs.Figures.{problemIn}
+use Rattle.run_arithmetic.specs.Ends.{endBy}
+use Rattle.run_sums.specs.Fits.{SumFits}
+
+-- the materials: costs and bounds
+abbrev pub materialsOnly : (n D : ℕ) → (c l u : List ℤ) → Problem
+materialsOnly n D c l u = problemIn n 0 0 D c l u [] []
+
+-- the costs
+abbrev pub costsOnly : (n D : ℕ) → List ℤ → Problem
+costsOnly n D c = problemIn n 0 0 D c [] [] [] []
+
+-- the end of the bounds of material j that its cost times a sign chooses: with 1 the cheapest, with −1 the greatest
+abbrev pub signedEnd : ℤ → Problem → ℕ → ℤ
+signedEnd sign P j = endBy (sign *ℤ P .cost j) (P .least j) (P .most j)
+
+-- the cost of amounts x, and D times it
+pub record CostFits (P : Problem) (x : ℕ → ℤ) : Type 0 where
+  pub narrow : P .materials ≤ 32
+  pub scale : P .scale ≤ 1024
+  pub sum : SumFits w32 (pos 0) (λ j. P .cost j *ℤ x j) (P .materials)
+  pub scaled : SFits w64 (pos (P .scale) *ℤ costOf P x)
+
+-- ends by a sign, which is 1 or −1
+pub record EndsFit (n : ℕ) (sign : ℤ) : Type 0 where
+  pub narrow : n ≤ 32
+  pub unit : Bnd sign 1
+
+-- and the cost at them
+pub record SignedEndsFit (sign : ℤ) (P : Problem) : Type 0 where
+  pub unit : Bnd sign 1
+  pub cost : CostFits P (signedEnd sign P)
+
+-- the gap of a count of steps, a low and sums s
+pub record GapFits (P : Problem) (count : ℕ) (low : ℤ) (s : ℕ → ℤ) : Type 0 where
+  pub narrow : P .materials ≤ 32
+  pub scale : P .scale ≤ 1024
+  pub few : count ≤ 4096
+  pub sum : SumFits w64 (pos 0) (λ j. P .cost j *ℤ s j) (P .materials)
+  pub scaled : SFits w64 (pos (P .scale) *ℤ costOf P s)
+  pub counted : SFits w64 (pos count *ℤ low)
+  pub whole : SFits w64 (gapOf P count low s)

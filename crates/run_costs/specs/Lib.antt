@@ -1,0 +1,3 @@
+-- What the costs are of, and what working them out asks.
+--   Costs   the problems that have the lent figures, ends by the sign of a cost, and that sums and products fit
+pub mod Costs

@@ -1,0 +1,110 @@
+// Costs over the bounds and of sums: D times the cost of amounts, the greatest and the cheapest that the bounds allow, and the gap.
+ghost use mathlib.Core.Path.{_≡_};
+ghost use lib.IntN.{pos, _*ℤ_};
+ghost use Rattle.rules.specs.Notation.{tabulate, at};
+ghost use Rattle.rules.specs.Problem.{costOf};
+ghost use Rattle.rules.specs.Step.{greatestCost, cheapestCost};
+ghost use Rattle.rules.specs.Run.{gapOf};
+ghost use Rattle.proof_magnitudes.specs.CostRange.{cheapestEnd, greatestEnd};
+ghost use Rattle.sheet_figures.specs.Padded.{padded};
+ghost use Rattle.run_costs.specs.Costs.{costsOnly, materialsOnly, signedEnd, CostFits, EndsFit, SignedEndsFit, GapFits};
+use run_arithmetic::end_by;
+use run_arithmetic::minus_64;
+use run_sums::dot_32;
+use run_sums::dot_column_64;
+
+// D times the cost of amounts.
+pub fn scaled_cost<'a>(n: usize, scale: usize, cost: &'a [i16; 32], amounts: &'a [i16; 32]) -> i64
+    requires { ⌜ CostFits (costsOnly n scale (now cost)) (at (now amounts)) ⌝ }
+    ensures { λ r. ⌜ r ≡ pos scale *ℤ costOf (costsOnly n scale (now (cost .entry))) (at (now (amounts .entry))) ⌝ }
+{
+    let sum = dot_32(n, cost, 0, amounts);
+    (scale as i64) * (sum as i64)
+}
+
+// The end of the bounds of each material that its cost chooses, or, where the sign is -1, the cost's opposite.
+fn ends<'a>(
+    n: usize,
+    sign: i64,
+    cost: &'a [i16; 32],
+    least: &'a [i16; 32],
+    most: &'a [i16; 32],
+) -> [i16; 32]
+    requires { ⌜ EndsFit n sign ⌝ }
+    ensures { λ r. ⌜ r ≡ padded 32 (tabulate n
+        (signedEnd sign (materialsOnly n 0 (now (cost .entry)) (now (least .entry)) (now (most .entry))))) ⌝ }
+{
+    let mut x: [i16; 32] = [0; 32];
+    let mut j: usize = 0;
+    while j < n {
+        x[j] = end_by(sign * (cost[j] as i64), least[j], most[j]);
+        j += 1;
+    }
+    x
+}
+
+// D times the cost at these ends.
+fn value_at_ends<'a>(
+    n: usize,
+    scale: usize,
+    sign: i64,
+    cost: &'a [i16; 32],
+    least: &'a [i16; 32],
+    most: &'a [i16; 32],
+) -> i64
+    requires { ⌜ SignedEndsFit sign (materialsOnly n scale (now cost) (now least) (now most)) ⌝ }
+    ensures { λ r. ⌜ r ≡ pos scale *ℤ
+        costOf (materialsOnly n scale (now (cost .entry)) (now (least .entry)) (now (most .entry)))
+        (signedEnd sign (materialsOnly n scale (now (cost .entry)) (now (least .entry)) (now (most .entry)))) ⌝ }
+{
+    let x = ends(n, sign, cost, least, most);
+    scaled_cost(n, scale, cost, &x)
+}
+
+// D times the greatest ("dearest") cost that the bounds allow.
+pub fn greatest_value<'a>(
+    n: usize,
+    scale: usize,
+    cost: &'a [i16; 32],
+    least: &'a [i16; 32],
+    most: &'a [i16; 32],
+) -> i64
+    requires { ⌜ CostFits (materialsOnly n scale (now cost) (now least) (now most))
+        (greatestEnd (materialsOnly n scale (now cost) (now least) (now most))) ⌝ }
+    ensures { λ r. ⌜ r ≡ pos scale *ℤ
+        greatestCost (materialsOnly n scale (now (cost .entry)) (now (least .entry)) (now (most .entry))) ⌝ }
+{
+    value_at_ends(n, scale, -1, cost, least, most)
+}
+
+// D times the cheapest cost that the bounds allow.
+pub fn cheapest_value<'a>(
+    n: usize,
+    scale: usize,
+    cost: &'a [i16; 32],
+    least: &'a [i16; 32],
+    most: &'a [i16; 32],
+) -> i64
+    requires { ⌜ CostFits (materialsOnly n scale (now cost) (now least) (now most))
+        (cheapestEnd (materialsOnly n scale (now cost) (now least) (now most))) ⌝ }
+    ensures { λ r. ⌜ r ≡ pos scale *ℤ
+        cheapestCost (materialsOnly n scale (now (cost .entry)) (now (least .entry)) (now (most .entry))) ⌝ }
+{
+    value_at_ends(n, scale, 1, cost, least, most)
+}
+
+// The gap of a count of steps, a low and sums: D times the cost of the sums, less the count times low.
+pub fn gap<'a>(
+    n: usize,
+    scale: usize,
+    cost: &'a [i16; 32],
+    sums: &'a [i32; 32],
+    count: usize,
+    low: i64,
+) -> i64
+    requires { ⌜ GapFits (costsOnly n scale (now cost)) count low (at (now sums)) ⌝ }
+    ensures { λ r. ⌜ r ≡ gapOf (costsOnly n scale (now (cost .entry))) count low (at (now (sums .entry))) ⌝ }
+{
+    let sum = dot_column_64(n, 0, sums, cost, 0, 1);
+    minus_64((scale as i64) * sum, (count as i64) * low)
+}
