@@ -1,0 +1,3 @@
+-- What the proofs share.
+--   Adding   totals added to in place
+pub mod Adding
