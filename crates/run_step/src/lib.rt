@@ -1,1 +1,82 @@
-// x
+// One step of the dual subgradient method with a constant step, on a state by value.
+ghost use mathlib.Core.Path.{_≡_};
+ghost use Prim.Native.Nat.{suc};
+ghost use Rattle.rules.specs.Answers.{refusalAt};
+ghost use Rattle.sheet_figures.specs.Figures.{problemOf};
+ghost use Rattle.run_step.specs.States.{AfterSteps};
+ghost use Rattle.run_step.specs.Reached.{StepReady};
+use rules::Cause;
+use rules::Refusal;
+use rules::Verdict;
+use run_arithmetic::larger;
+use run_look::look_at;
+use run_totals::add_amounts;
+use run_totals::add_residuals;
+use run_totals::move_multipliers;
+use sheet_figures::Figures;
+
+// The state of the run.
+pub struct State {
+    // M_i at place i
+    pub multipliers: [i32; 16],
+    // sum j at place j
+    pub sums: [i32; 32],
+    // residual total i ("overshoot") at place i
+    pub totals: [i64; 16],
+    pub low: i64,
+}
+
+// What a step hands back: the whole state, and beside it the stop.
+pub struct Stepped {
+    pub stop: Verdict,
+    pub state: State,
+}
+
+// A stop at step t, which leaves the state as it was.
+fn stopped(state: State, t: usize, cause: Cause) -> Stepped
+    ensures { λ r. ⌜ r ≡ record { stop = Verdict.Refused (record { place = t; cause = cause }); state = state } ⌝ }
+{
+    Stepped {
+        stop: Verdict::Refused(Refusal {
+            place: t,
+            cause: cause,
+        }),
+        state: state,
+    }
+}
+
+impl State {
+    // Step t, with D times the greatest cost: a look at the multipliers, refusal 9, the move, refusal 10, and the totals.
+    pub fn step(self, f: Figures, greatest: i64, t: usize) -> Stepped
+        requires { ⌜ StepReady f greatest t self ⌝ }
+        ensures { λ r. ⌜ AfterSteps (problemOf f) (suc t) (refusalAt (problemOf f) t) r ⌝ }
+    {
+        let mut w = self;
+        let q = look_at(
+            f.materials,
+            f.limits,
+            f.scale,
+            &f.cost,
+            &f.least,
+            &f.most,
+            &f.coefficient,
+            &f.rhs,
+            &w.multipliers,
+        );
+        let value = q.value;
+        if greatest < value {
+            return stopped(self, t, Cause::Infeasible);
+        }
+        if move_multipliers(f.limits, f.numerator, &mut w.multipliers, &q.residuals) {
+            return stopped(self, t, Cause::Diverged);
+        }
+        add_amounts(f.materials, &mut w.sums, &q.amounts);
+        add_residuals(f.limits, &mut w.totals, &q.residuals);
+        let low = w.low;
+        w.low = larger(low, value);
+        Stepped {
+            stop: Verdict::Passed,
+            state: w,
+        }
+    }
+}

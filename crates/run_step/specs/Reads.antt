@@ -9,10 +9,10 @@ use Rattle.rules.specs.Notation.{tabulate, at}
 use Rattle.rules.specs.Problem.{Problem}
 use Rattle.rules.specs.Run.{stateAfter}
 use Rattle.proof_laws.specs.Lengths.{multipliers-length, sums-length, totals-length}
-use Rattle.proof_margins.specs.Accepted.{Accepted}
-use Rattle.proof_margins.specs.RunSteps.{entering}
+use Rattle.proof_magnitudes.specs.Accepted.{Accepted}
+use Rattle.proof_magnitudes.specs.Steps.{entering}
 use Rattle.sheet_figures.specs.Padded.{padded, at-padded}
-use Rattle.run_steps.specs.Changed.{Changed, changed-all}
+use Rattle.run_totals.specs.Changed.{Changed, changed-all}
 
 -- an array that holds a list of n elements, of which there is room for all, reads as the list
 pub reads : (room : ℕ) (xs : List ℤ) {n : ℕ} {array : List ℤ} → array ≡ padded room xs → length xs ≡ n → n ≤ room → at array ≡ at xs

@@ -1,0 +1,63 @@
+-- The costs of an accepted problem's run fit, and so does its gap. The figures f are those that the functions are lent.
+use mathlib.Core.Path.{_≡_}
+use mathlib.Core.Option.{none}
+use Prim.Native.Nat.{ℕ, _≤_}
+use native.Mathlib.Nat.{le-trans}
+use lib.Dec.{lit≤}
+use lib.IntN.{ℤ, pos, _*ℤ_, +ℤ-idl}
+use mir.Syntax.{w32}
+use Rattle.proof_integer.specs.Range.{bnd-sfits}
+use Rattle.rules.specs.Notation.{at}
+use Rattle.rules.specs.Problem.{Problem, costOf}
+use Rattle.rules.specs.Run.{stateAfter, lowAfter, gapOf}
+use Rattle.rules.specs.Answers.{stepRefusal}
+use Rattle.proof_magnitudes.specs.Accepted.{Accepted}
+use Rattle.proof_magnitudes.specs.CostRange.{greatestEnd, cheapestEnd, cheapest-minimal, greatest-minimal}
+use Rattle.proof_magnitudes.specs.Magnitudes.{CostMagnitudes, amounts-bnd, cost-magnitudes}
+use Rattle.proof_magnitudes.specs.RunMagnitudes.{run-magnitudes}
+use Rattle.sheet_figures.specs.declared.Figures.{Figures}
+use Rattle.sheet_figures.specs.Figures.{problemOf}
+use Rattle.run_sums.specs.Fits.{SumFits}
+use Rattle.run_costs.specs.Costs.{materialsOnly, costsOnly, CostFits, GapFits}
+
+-- the cost of amounts of at most 1,000
+pub cost-fits : {P : Problem} {k : ℕ} → Accepted P k → (x : ℕ → ℤ) → CostMagnitudes P x 1000 → CostFits P x
+cost-fits accepted x costs = record {
+  narrow = accepted .materials-few;
+  scale = accepted .scale-small;
+  sum = record {
+    one = λ j l. bnd-sfits tt (costs .term j l .magnitude);
+    part = λ n l. rw +ℤ-idl (bnd-sfits tt (costs .sum n l .magnitude));
+  };
+  scaled = costs .scaled .fits;
+}
+
+module _ (f : Figures) {k : ℕ} (accepted : Accepted (problemOf f) k) where
+  -- ---- the greatest and the cheapest cost
+  pub greatest-fits : CostFits (materialsOnly (f .materials) (f .scale) (f .cost) (f .least) (f .most)) (greatestEnd (problemOf f))
+  unfolding costOf
+  greatest-fits =
+      let fits = cost-fits accepted _ (cost-magnitudes accepted _ (lit≤ tt) (amounts-bnd accepted (greatest-minimal (problemOf f)))) in
+      record { narrow = fits .narrow; scale = fits .scale; sum = fits .sum; scaled = fits .scaled }
+
+  pub cheapest-fits : CostFits (materialsOnly (f .materials) (f .scale) (f .cost) (f .least) (f .most)) (cheapestEnd (problemOf f))
+  unfolding costOf
+  cheapest-fits =
+      let fits = cost-fits accepted _ (cost-magnitudes accepted _ (lit≤ tt) (amounts-bnd accepted (cheapest-minimal (problemOf f)))) in
+      record { narrow = fits .narrow; scale = fits .scale; sum = fits .sum; scaled = fits .scaled }
+
+  -- ---- the gap after t steps, none of them refused
+  pub gap-fits : (t : ℕ) → t ≤ k → stepRefusal (problemOf f) t ≡ none
+      → GapFits (costsOnly (f .materials) (f .scale) (f .cost)) t (lowAfter (problemOf f) t) (at (stateAfter (problemOf f) t .sums))
+  unfolding costOf gapOf
+  gap-fits t few going =
+      let large = run-magnitudes accepted t few going .state in
+      record {
+        narrow = accepted .materials-few;
+        scale = accepted .scale-small;
+        few = le-trans few (accepted .steps-few);
+        sum = record { one = λ j l. large .sums-cost .term j l .fits; part = λ n l. rw +ℤ-idl (large .sums-cost .sum n l .fits) };
+        scaled = large .sums-cost .scaled .fits;
+        counted = large .counted-low .fits;
+        whole = large .gap .fits;
+      }

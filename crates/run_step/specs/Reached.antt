@@ -1,0 +1,26 @@
+-- A state that steps lead to, and what a step asks of it.
+use mathlib.Core.Path.{_≡_}
+use mathlib.Core.Option.{none}
+use Prim.Native.Nat.{ℕ, _≤_, _<_}
+use lib.IntN.{ℤ, pos, _*ℤ_}
+use Rattle.rules.specs.Step.{greatestCost}
+use Rattle.rules.specs.Run.{stateAfter}
+use Rattle.rules.specs.Answers.{stepRefusal}
+use Rattle.proof_magnitudes.specs.Accepted.{Accepted}
+use Rattle.sheet_figures.specs.declared.Figures.{Figures}
+use Rattle.sheet_figures.specs.Figures.{problemOf}
+use Rattle.run_step.specs.declared.State.{State}
+use Rattle.run_step.specs.States.{stateIn}
+
+-- the figures are those of an accepted sheet, and k steps of its run, of which none is refused, lead to the state w
+pub record Reached (f : Figures) (k : ℕ) (w : State) : Type 0 where
+  pub accepted : Accepted (problemOf f) (f .steps)
+  pub few : k ≤ f .steps
+  pub going : stepRefusal (problemOf f) k ≡ none
+  pub state : w ≡ stateIn (stateAfter (problemOf f) k)
+
+-- the state before step t, and D times the greatest cost
+pub record StepReady (f : Figures) (greatest : ℤ) (t : ℕ) (w : State) : Type 0 where
+  pub reached : Reached f t w
+  pub more : t < f .steps
+  pub greatest-is : greatest ≡ pos (f .scale) *ℤ greatestCost (problemOf f)
