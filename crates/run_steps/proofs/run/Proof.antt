@@ -11,15 +11,16 @@ use Rattle.rules.specs.Step.{greatestCost}
 use Rattle.rules.specs.Answers.{stepRefusal}
 use Rattle.proof_laws.specs.FirstPlace.{first-start}
 use Rattle.sheet_figures.specs.Figures.{problemOf}
-use Rattle.run_steps.specs.declared.Stop.the-variants.{Going}
-use Rattle.run_steps.specs.Asked.{Reached}
-use Rattle.run_steps.proofs.Magnitudes.{greatest-fits}
-use Rattle.run_steps.proofs.Stops.{hands-on, still-going, next-state, hands-state}
+use Rattle.rules.specs.declared.Verdict.the-variants.{Passed}
+use Rattle.run_step.specs.Reached.{Reached}
+use Rattle.run_costs.specs.OfRun.{greatest-fits}
+use Rattle.run_step.specs.Stops.{hands-state}
+use Rattle.run_steps.proofs.Turns.{hands-on, still-going, next-state}
 use Rattle.run_steps.proofs.run.Statement.{statement}
 use Rattle.run_steps.proofs.run.Tie as tie
 
 abbrev Inv-loop : tie.InvT-loop
-Inv-loop f k greatest r₀ t₀ r t = (r .stop ≡ Going) × Reached f t (r .state)
+Inv-loop f k greatest r₀ t₀ r t = (r .stop ≡ Passed) × Reached f t (r .state)
 
 abbrev μ-loop : tie.MeasureT-loop
 μ-loop f k greatest r₀ t₀ r t = k - t
@@ -27,7 +28,7 @@ abbrev μ-loop : tie.MeasureT-loop
 greatest-value-requires : tie.Need-greatest-value-requires Inv-loop μ-loop
 greatest-value-requires c κs =
     let s = c .before .before .before .before in
-    greatest-fits (s .args .t1) (s .args .t1 .steps) (s .pre)
+    greatest-fits (s .args .t1) (s .pre)
 
 start-requires : tie.Need-start-requires Inv-loop μ-loop
 start-requires c κs = c .before .before .before .before .before .pre

@@ -5,23 +5,23 @@ use mir.Val.{SFits}
 use mir.Facts.{toZ-ofZ}
 use borrow.Author.Needs.{needs}
 use Rattle.rules.specs.Problem.{costOf}
+use Rattle.rules.specs.Step.{cheapestCost}
 use Rattle.rules.specs.Run.{startingMultiplier, start, stateAfter}
-use Rattle.proof_margins.specs.CostRange.{cheapestCost}
-use Rattle.proof_margins.specs.Opening.{opening-low}
+use Rattle.proof_magnitudes.specs.Opening.{opening-low}
 use Rattle.sheet_figures.specs.Padded.{padded-zero}
 use Rattle.sheet_figures.specs.Figures.{problemOf}
-use Rattle.run_steps.specs.Arrays.{arraysOf}
-use Rattle.run_steps.proofs.Magnitudes.{cheapest-fits}
+use Rattle.run_step.specs.States.{stateIn}
+use Rattle.run_costs.specs.OfRun.{cheapest-fits}
 use Rattle.run_steps.proofs.start.Statement.{statement}
 use Rattle.run_steps.proofs.start.Tie as tie
 
 cheapest-value-requires : tie.Need-cheapest-value-requires
 cheapest-value-requires c κs =
     let s = c .before .before .before .before in
-    cheapest-fits (s .args .t1) (s .args .t1 .steps) (s .pre)
+    cheapest-fits (s .args .t1) (s .pre)
 
 returns : tie.Need-returns
-unfolding arraysOf stateAfter start startingMultiplier cheapestCost costOf
+unfolding stateIn stateAfter start startingMultiplier cheapestCost costOf
 returns c =
     let s = c .before .before .before .before .before in
     let f = s .args .t1 in

@@ -28,7 +28,7 @@ use Rattle.run_totals.specs.Changed.{changed-end}
 use Rattle.run_step.specs.States.{stateIn}
 use Rattle.run_step.specs.Reads.{reads, multipliers-read, sums-read, totals-read, multipliers-changed, sums-changed, totals-changed}
 use Rattle.run_step.proofs.Fitting.{lookedAt, same-look, look-fits, move-fits, sums-fit, totals-fit}
-use Rattle.run_step.proofs.Stops.{refused-9, refused-10, not-refused, hands-stop, hands-state}
+use Rattle.run_step.specs.Stops.{refused-9, refused-10, not-refused, hands-stop, hands-state}
 use Rattle.run_step.proofs.State.step.Statement.{statement}
 use Rattle.run_step.proofs.State.step.Tie as tie
 

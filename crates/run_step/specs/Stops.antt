@@ -1,4 +1,4 @@
--- What a step and a run hand back, where they are refused and where they are not.
+-- What steps hand back, where they are refused and where they are not.
 use mathlib.Core.Path.{_≡_, sym, ap, _∙_}
 use mathlib.Core.Bool.{true, false}
 use mathlib.Core.Option.{Option, none, some}
