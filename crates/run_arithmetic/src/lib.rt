@@ -23,12 +23,12 @@ pub fn plus_product_64(sum: i64, x: i32, y: i32) -> i64
     sum + (x as i64) * (y as i64)
 }
 
-// A total with one more, in 32 bits.
-pub fn plus_32(total: i32, more: i32) -> i32
-    requires { ⌜ SFits w32 (total +ℤ more) ⌝ }
-    ensures { λ r. ⌜ r ≡ total +ℤ more ⌝ }
+// A sum with one amount more, in 32 bits.
+pub fn plus_32(sum: i32, amount: i32) -> i32
+    requires { ⌜ SFits w32 (sum +ℤ amount) ⌝ }
+    ensures { λ r. ⌜ r ≡ sum +ℤ amount ⌝ }
 {
-    total + more
+    sum + amount
 }
 
 // A total with one more, in 64 bits.

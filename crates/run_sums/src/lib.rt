@@ -47,11 +47,11 @@ pub fn dot_64<'a>(m: usize, first: i64, x: &'a [i32; 16], y: &'a [i32; 16]) -> i
     requires { ⌜ PairsFit m first (now x) (now y) ⌝ }
     ensures { λ r. ⌜ r ≡ first +ℤ sumTo m (λ i. at (now (x .entry)) i *ℤ at (now (y .entry)) i) ⌝ }
 {
-    let mut sum = first;
+    let mut total = first;
     let mut i: usize = 0;
     while i < m {
-        sum = plus_product_64(sum, x[i], y[i]);
+        total = plus_product_64(total, x[i], y[i]);
         i += 1;
     }
-    sum
+    total
 }

@@ -46,12 +46,12 @@ pub fn add_amounts<'a>(n: usize, sums: &'a mut [i32; 32], amounts: &'a [i16; 32]
 }
 
 // The residuals of one step more, added to the residual totals in place.
-pub fn add_residuals<'a>(m: usize, totals: &'a mut [i64; 16], residuals: &'a [i32; 16])
-    requires { ⌜ TotalsFit w64 16 m (at (now totals)) (at (now residuals)) ⌝ }
-    ensures { λ _. ⌜ Changed m (λ i. at (now (totals .entry)) i +ℤ at (now (residuals .entry)) i) (now (totals .entry)) (now (totals .exit)) ⌝ }
+pub fn add_residuals<'a>(limits: usize, totals: &'a mut [i64; 16], residuals: &'a [i32; 16])
+    requires { ⌜ TotalsFit w64 16 limits (at (now totals)) (at (now residuals)) ⌝ }
+    ensures { λ _. ⌜ Changed limits (λ i. at (now (totals .entry)) i +ℤ at (now (residuals .entry)) i) (now (totals .entry)) (now (totals .exit)) ⌝ }
 {
     let mut i: usize = 0;
-    while i < m {
+    while i < limits {
         totals[i] = plus_64(totals[i], residuals[i] as i64);
         i += 1;
     }

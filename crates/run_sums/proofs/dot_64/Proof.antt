@@ -17,10 +17,10 @@ abbrev product : List ℤ → List ℤ → ℕ → ℤ
 product x y i = at x i *ℤ at y i
 
 abbrev Inv-loop : tie.InvT-loop
-Inv-loop m first x y sum₀ i₀ sum i = Turn w64 (toZ w64 first) (product x y) m sum i
+Inv-loop m first x y total₀ i₀ total i = Turn w64 (toZ w64 first) (product x y) m total i
 
 abbrev μ-loop : tie.MeasureT-loop
-μ-loop m first x y sum₀ i₀ sum i = m - i
+μ-loop m first x y total₀ i₀ total i = m - i
 
 -- in a turn, with both elements read
 module _ (c : tie.After-plus-product-64-arg2 Inv-loop μ-loop) where

@@ -11,10 +11,10 @@ use Rattle.run_totals.proofs.add_residuals.Statement.{statement}
 use Rattle.run_totals.proofs.add_residuals.Tie as tie
 
 abbrev Inv-loop : tie.InvT-loop
-Inv-loop m totals₀ residuals i₀ totals i = Turn m totals₀ residuals totals i
+Inv-loop limits totals₀ residuals i₀ totals i = Turn limits totals₀ residuals totals i
 
 abbrev μ-loop : tie.MeasureT-loop
-μ-loop m totals₀ residuals i₀ totals i = m - i
+μ-loop limits totals₀ residuals i₀ totals i = limits - i
 
 -- in a turn, with both elements read
 module _ (c : tie.After-plus-64-arg2 Inv-loop μ-loop) where
