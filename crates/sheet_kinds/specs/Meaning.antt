@@ -3,9 +3,9 @@ use Prim.Native.Nat.{ℕ, _≤_}
 use Rattle.rules.specs.declared.Kind.{Kind}
 use Rattle.rules.specs.Ranges.{kindAt}
 use Rattle.rules.specs.Refusals.{noFigureAt}
-use Rattle.sheet_ranges.specs.declared.Meaning.{Meaning}
-use Rattle.sheet_ranges.specs.declared.Meaning.the-variants.{Figure, Nothing}
-use Rattle.sheet_ranges.specs.Read.{Read, gives, refused, unless}
+use Rattle.sheet_kinds.specs.declared.Meaning.{Meaning}
+use Rattle.sheet_kinds.specs.declared.Meaning.the-variants.{Figure, Nothing}
+use Rattle.sheet_kinds.specs.Read.{Read, gives, refused, unless}
 
 -- what each answer stands for: a kind, or refusal 5
 unfoldable pub meaningOf : Meaning → Read Kind

@@ -7,8 +7,8 @@ use lib.Dec.{ltb, eqb}
 use borrow.Author.Tests.{lt-ltb, le-ltb, le-leb, lt-leb}
 use Rattle.rules.specs.Ranges.{kindAt}
 use Rattle.rules.specs.Refusals.{noFigureAt}
-use Rattle.sheet_ranges.specs.Meaning.{meaningAt}
-use Rattle.sheet_ranges.specs.Read.{refused, unless}
+use Rattle.sheet_kinds.specs.Meaning.{meaningAt}
+use Rattle.sheet_kinds.specs.Read.{refused, unless}
 
 module _ (n m row column : ℕ) where
   -- rows 0 to 2 end before column n

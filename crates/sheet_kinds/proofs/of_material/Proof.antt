@@ -6,10 +6,10 @@ use mathlib.Core.Logic.{inl, inr}
 use native.Mathlib.Nat.{eq-or-lt-of-le}
 use native.Mathlib.Omega.{arith}
 use borrow.Author.Tests.{lt-ltb, le-ltb, eq-eqb, ne-eqb}
-use Rattle.sheet_ranges.specs.Meaning.{meaningOf}
-use Rattle.sheet_ranges.specs.Read.{unless}
-use Rattle.sheet_ranges.proofs.of_material.Statement.{statement}
-use Rattle.sheet_ranges.proofs.of_material.Tie as tie
+use Rattle.sheet_kinds.specs.Meaning.{meaningOf}
+use Rattle.sheet_kinds.specs.Read.{unless}
+use Rattle.sheet_kinds.proofs.of_material.Statement.{statement}
+use Rattle.sheet_kinds.proofs.of_material.Tie as tie
 
 returns : tie.Need-returns
 unfolding meaningOf unless

@@ -3,10 +3,10 @@ use mathlib.Core.Path.{_∙_}
 use native.Mathlib.Omega.{arith}
 use borrow.Author.Needs.{needs}
 use Rattle.rules.specs.Ranges.{kindAt}
-use Rattle.sheet_ranges.specs.Meaning.{meaningOf}
-use Rattle.sheet_ranges.proofs.Rows.{material-row, limit-row, no-row}
-use Rattle.sheet_ranges.proofs.meaning_at.Statement.{statement}
-use Rattle.sheet_ranges.proofs.meaning_at.Tie as tie
+use Rattle.sheet_kinds.specs.Meaning.{meaningOf}
+use Rattle.sheet_kinds.proofs.Rows.{material-row, limit-row, no-row}
+use Rattle.sheet_kinds.proofs.meaning_at.Statement.{statement}
+use Rattle.sheet_kinds.proofs.meaning_at.Tie as tie
 
 returns : tie.Need-returns
 unfolding kindAt

@@ -2,10 +2,10 @@
 use native.Mathlib.Omega.{arith}
 use borrow.Author.Tests.{lt-ltb, le-ltb, eq-eqb, ne-eqb}
 use Rattle.rules.specs.Ranges.{kindAt}
-use Rattle.sheet_ranges.specs.Meaning.{meaningOf}
-use Rattle.sheet_ranges.specs.Read.{unless}
-use Rattle.sheet_ranges.proofs.of_limit.Statement.{statement}
-use Rattle.sheet_ranges.proofs.of_limit.Tie as tie
+use Rattle.sheet_kinds.specs.Meaning.{meaningOf}
+use Rattle.sheet_kinds.specs.Read.{unless}
+use Rattle.sheet_kinds.proofs.of_limit.Statement.{statement}
+use Rattle.sheet_kinds.proofs.of_limit.Tie as tie
 
 returns : tie.Need-returns
 unfolding meaningOf unless kindAt
