@@ -1,39 +1,16 @@
 -- Reading an entry.
 use mathlib.Core.Bool.{Bool, not, _||_}
-use Prim.Native.Nat.{ℕ, _+_, _-_, _*_, _<_, _≤_}
+use Prim.Native.Nat.{ℕ}
 use lib.Dec.{eqb}
 use lib.IntN.{ℤ, natAbs}
 use Rattle.rules.specs.declared.Kind.{Kind}
-use Rattle.rules.specs.declared.Kind.the-variants.{Cost, Least, Most, Coefficient, Rhs}
 use Rattle.rules.specs.Sheet.{rowOf, columnOf}
 use Rattle.rules.specs.Ranges.{rangeOf, kindAt, inRange}
 use Rattle.rules.specs.Refusals.{noFigureAt}
-use Rattle.sheet_ranges.specs.Read.{Read, gives, refused, unless}
+use Rattle.sheet_figures.specs.Places.{placeOf}
+use Rattle.sheet_kinds.specs.Read.{Read, gives, refused, unless}
 use Rattle.sheet_entries.specs.declared.Entry.{Entry}
 use Rattle.sheet_entries.specs.declared.Entry.the-variants.{Figure, Bad}
-
--- ---- the place of a figure
--- the first row of a kind's figures
-unfoldable pub firstRow : Kind → ℕ
-firstRow Cost = 0
-firstRow Least = 1
-firstRow Most = 2
-firstRow Coefficient = 3
-firstRow Rhs = 3
-
--- finding the place asks that the row is one of the kind's, and that row and column are small
-pub record PlaceAsked (kind : Kind) (row column : ℕ) : Type 0 where
-  pub from : firstRow kind ≤ row
-  pub row-small : row < 1024
-  pub column-small : column < 64
-
--- the place of a figure in the array of its kind
-unfoldable pub placeOf : Kind → ℕ → ℕ → ℕ
-placeOf Cost row column = column
-placeOf Least row column = column
-placeOf Most row column = column
-placeOf Coefficient row column = 32 * (row - 3) + column
-placeOf Rhs row column = row - 3
 
 -- ---- an entry that was read: a value, its kind, and its place
 pub record Placed : Type 0 where

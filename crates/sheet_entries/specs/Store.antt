@@ -9,26 +9,11 @@ use lib.Signed.{_≤ℤ_, leZ-yes}
 use lib.Ieee.Fits.{and-l, and-r}
 use Rattle.proof_integer.specs.Range.{sfits-between}
 use lib.ListN.{set}
-use mir.Syntax.{Width, w16, w32}
 use mir.Val.{SFits}
 use Rattle.rules.specs.declared.Kind.{Kind}
 use Rattle.rules.specs.declared.Kind.the-variants.{Cost, Least, Most, Coefficient, Rhs}
 use Rattle.rules.specs.Ranges.{ranges, indexOf, rangeOf, inRange}
-
--- the places of the array of a kind, and the width of its figures
-unfoldable pub roomOf : Kind → ℕ
-roomOf Cost = 32
-roomOf Least = 32
-roomOf Most = 32
-roomOf Coefficient = 512
-roomOf Rhs = 16
-
-unfoldable pub widthOf : Kind → Width
-widthOf Cost = w16
-widthOf Least = w16
-widthOf Most = w16
-widthOf Coefficient = w16
-widthOf Rhs = w32
+use Rattle.sheet_figures.specs.Places.{roomOf, widthOf}
 
 -- storing asks that place and value fit the array
 pub record Storable (kind : Kind) (place : ℕ) (value : ℤ) : Type 0 where

@@ -1,14 +1,15 @@
 // One entry of a sheet: its key, its value, and its place in the arrays of figures.
 ghost use mathlib.Core.Path.{_≡_};
 ghost use Rattle.rules.specs.declared.Kind.the-variants.{Cost, Least, Most, Coefficient, Rhs};
-ghost use Rattle.sheet_ranges.specs.Meaning.{FewLimits};
+ghost use Rattle.sheet_kinds.specs.Meaning.{FewLimits};
 ghost use Rattle.sheet_entries.specs.KeyRead.{keyOf, keyRead};
-ghost use Rattle.sheet_entries.specs.EntryRead.{PlaceAsked, placeOf, entryOf, entryRead};
+ghost use Rattle.sheet_entries.specs.EntryRead.{entryOf, entryRead};
 ghost use Rattle.sheet_entries.specs.Store.{Storable, storeIf};
 use rules::Kind;
-use sheet_ranges::Meaning;
+use sheet_figures::place_of;
+use sheet_kinds::Meaning;
+use sheet_kinds::meaning_at;
 use sheet_ranges::in_range;
-use sheet_ranges::meaning_at;
 
 // What reading an entry's key gives: the key, or refusal 5.
 pub enum Key {
@@ -35,20 +36,6 @@ pub fn read_key(n: usize, m: usize, floor: usize, key: usize) -> Key
         return Key::Bad;
     }
     Key::Good(key)
-}
-
-// The place of a figure in the array of its kind.
-fn place_of(kind: Kind, row: usize, column: usize) -> usize
-    requires { ⌜ PlaceAsked kind row column ⌝ }
-    ensures { λ r. ⌜ r ≡ placeOf kind row column ⌝ }
-{
-    match kind {
-        Kind::Cost => column,
-        Kind::Least => column,
-        Kind::Most => column,
-        Kind::Coefficient => 32 * (row - 3) + column,
-        Kind::Rhs => row - 3,
-    }
 }
 
 // An entry, with n materials and m limits.

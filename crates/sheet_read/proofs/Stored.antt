@@ -20,7 +20,7 @@ use Rattle.sheet_figures.specs.Arrays.{placed-cong, placed-set, placed-zero}
 use Rattle.sheet_figures.specs.declared.Figures.{Figures}
 use Rattle.sheet_figures.specs.Figures.{figuresOf}
 use Rattle.sheet_figures.specs.Arrays as figures
-use Rattle.sheet_ranges.specs.Read.{gives, gives-says}
+use Rattle.sheet_kinds.specs.Read.{gives, gives-says}
 use Rattle.sheet_entries.specs.EntryRead.{Placed, placeOf, entryPlaced, entryRead}
 use Rattle.sheet_entries.specs.Store.{Storable, roomOf, storeIf, fits}
 use Rattle.sheet_read.specs.Passes.{hasFigure, rowAt, columnAt, arrayAfter}

@@ -2,6 +2,7 @@
 use mathlib.Core.Path.{_≡_, sym, ap, _∙_}
 use mathlib.Core.Bool.{false}
 use Prim.Native.Nat.{ℕ}
+use native.Mathlib.Omega.{arith}
 use borrow.Author.Needs.{needs}
 use borrow.Author.Tests.{not-true, not-false}
 use lib.IntN.{ℤ, pos}
@@ -11,10 +12,12 @@ use mir.Facts.{toZ-ofZ}
 use Rattle.rules.specs.Sheet.{rowOf, columnOf}
 use Rattle.rules.specs.Ranges.{rangeOf, kindAt, inRange}
 use Rattle.rules.specs.Refusals.{noFigureAt}
-use Rattle.sheet_ranges.specs.Read.{gives, gives-says, refused-says}
-use Rattle.sheet_ranges.specs.Meaning.{meaningOf, meaningAt}
-use Rattle.sheet_entries.specs.EntryRead.{placeOf, entryOf}
-use Rattle.sheet_entries.proofs.Tests.{no-entry, zero-value, out-of-range, in-range, place-asked}
+use Rattle.proof_laws.specs.Entries.{figure-at}
+use Rattle.sheet_figures.specs.Places.{placeOf, placeable}
+use Rattle.sheet_kinds.specs.Read.{gives, gives-says, refused-says}
+use Rattle.sheet_kinds.specs.Meaning.{meaningOf, meaningAt}
+use Rattle.sheet_entries.specs.EntryRead.{entryOf}
+use Rattle.sheet_entries.proofs.Tests.{no-entry, zero-value, out-of-range, in-range}
 use Rattle.sheet_entries.proofs.read_entry.Statement.{statement}
 use Rattle.sheet_entries.proofs.read_entry.Tie as tie
 
@@ -74,7 +77,9 @@ returns-3 c =
 place-of-requires : tie.Need-place-of-requires
 place-of-requires c κs =
     let at = found (c .before) in
-    place-asked (n at) (m at) (key at) (start at .pre .few) (figure at .0) (figure at .1)
+    let row = rowOf (key at) in
+    let column = columnOf (key at) in
+    placeable (n at) (m at) row column (start at .pre .few) (omega arith) (figure-at (n at) (m at) row column (figure at .0)) (figure at .1)
 
 returns-4 : tie.Need-returns-4
 unfolding entryOf

@@ -4,8 +4,8 @@ use mathlib.Core.Bool.{false}
 use borrow.Author.Needs.{needs}
 use Rattle.rules.specs.Sheet.{rowOf, columnOf}
 use Rattle.rules.specs.Refusals.{noFigureAt}
-use Rattle.sheet_ranges.specs.Read.{gives-says, refused-says}
-use Rattle.sheet_ranges.specs.Meaning.{meaningOf, meaningAt}
+use Rattle.sheet_kinds.specs.Read.{gives-says, refused-says}
+use Rattle.sheet_kinds.specs.Meaning.{meaningOf, meaningAt}
 use Rattle.sheet_entries.specs.KeyRead.{keyOf}
 use Rattle.sheet_entries.proofs.Tests.{no-figure, low-key, good-key}
 use Rattle.sheet_entries.proofs.read_key.Statement.{statement}

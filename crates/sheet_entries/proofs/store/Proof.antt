@@ -9,7 +9,8 @@ use native.Mathlib.Omega.{arith}
 use borrow.Author.Needs.{needs}
 use Rattle.rules.specs.declared.Kind.{Kind}
 use Rattle.rules.specs.Ranges.{indexOf}
-use Rattle.sheet_entries.specs.Store.{Storable, storeIf, roomOf, widthOf}
+use Rattle.sheet_figures.specs.Places.{roomOf, widthOf}
+use Rattle.sheet_entries.specs.Store.{Storable, storeIf}
 use Rattle.sheet_entries.proofs.store.Statement.{statement}
 use Rattle.sheet_entries.proofs.store.Tie as tie
 

@@ -8,7 +8,7 @@ use borrow.Author.Needs.{needs}
 use Rattle.rules.specs.Sheet.{Sheet, sheetOf}
 use Rattle.rules.specs.Refusals.{numberOf, numbered, badKey}
 use Rattle.proof_laws.specs.FirstPlace.{first-start, first-end, scan, scan-more, scan-found}
-use Rattle.sheet_ranges.specs.Read.{unless, gives-says, refused-says}
+use Rattle.sheet_kinds.specs.Read.{unless, gives-says, refused-says}
 use Rattle.sheet_entries.specs.KeyRead.{keyOf, keyRead}
 use Rattle.sheet_read.specs.Reading.{refusalOf}
 use Rattle.sheet_read.specs.Passes.{keyRefusal}

@@ -16,7 +16,7 @@ use Rattle.rules.specs.Bytes.{signedAt}
 use Rattle.rules.specs.Sheet.{Sheet, sheetOf, rowOf, columnOf}
 use Rattle.rules.specs.Refusals.{numberOf, numbered, noFigureAt, badValue}
 use Rattle.proof_laws.specs.FirstPlace.{first-start, first-end, scan, scan-more, scan-found}
-use Rattle.sheet_ranges.specs.Read.{gives, refused-says}
+use Rattle.sheet_kinds.specs.Read.{gives, refused-says}
 use Rattle.sheet_entries.specs.EntryRead.{Placed, entryOf, entryRead}
 use Rattle.sheet_entries.specs.Store.{Storable, storeIf}
 use Rattle.sheet_read.specs.declared.Verdict.{Verdict}
