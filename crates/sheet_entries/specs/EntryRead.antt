@@ -9,8 +9,8 @@ use Rattle.rules.specs.Ranges.{rangeOf, kindAt, inRange}
 use Rattle.rules.specs.Refusals.{noFigureAt}
 use Rattle.sheet_figures.specs.Places.{placeOf}
 use Rattle.sheet_kinds.specs.Read.{Read, gives, refused, unless}
-use Rattle.sheet_entries.specs.declared.Entry.{Entry}
-use Rattle.sheet_entries.specs.declared.Entry.the-variants.{Figure, Bad}
+use Rattle.sheet_entries.specs.declared.EntryValue.{EntryValue}
+use Rattle.sheet_entries.specs.declared.EntryValue.the-variants.{Figure, Bad}
 
 -- ---- an entry that was read: a value, its kind, and its place
 pub record Placed : Type 0 where
@@ -19,7 +19,7 @@ pub record Placed : Type 0 where
   pub value : ℤ
 
 -- what each answer stands for: such an entry, or refusal 6
-unfoldable pub entryOf : Entry → Read Placed
+unfoldable pub entryOf : EntryValue → Read Placed
 entryOf (Figure kind place value) = gives (record { kind = kind; place = place; value = value })
 entryOf Bad = refused 6
 

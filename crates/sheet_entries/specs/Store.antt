@@ -33,10 +33,10 @@ ends-fit Most = (record { sfits = lit< tt }, record { sfits = lit< tt })
 ends-fit Coefficient = (record { sfits = lit< tt }, record { sfits = lit< tt })
 ends-fit Rhs = (record { sfits = lit< tt }, record { sfits = lit< tt })
 
-pub fits : (kind : Kind) (v : ℤ) → inRange (rangeOf kind) v ≡ true → SFits (widthOf kind) v
+pub in-range-fits : (kind : Kind) (v : ℤ) → inRange (rangeOf kind) v ≡ true → SFits (widthOf kind) v
 unfolding inRange
-fits kind v h =
+in-range-fits kind v h =
     let t : T (inRange (rangeOf kind) v) = rw h tt in
-    let low : rangeOf kind .least ≤ℤ v = search (and-l, and-r, leZ-yes) in
+    let low : rangeOf kind .least ≤ℤ v = search (and-l, leZ-yes) in
     let high : v ≤ℤ rangeOf kind .greatest = search (and-l, and-r, leZ-yes) in
     sfits-between (ends-fit kind .0) (ends-fit kind .1) low high

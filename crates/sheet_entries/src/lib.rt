@@ -18,7 +18,7 @@ pub enum Key {
 }
 
 // What reading an entry gives: a value, with its kind and its place in the array of that kind, or refusal 6.
-pub enum Entry {
+pub enum EntryValue {
     Figure { kind: Kind, at: usize, value: i32 },
     Bad,
 }
@@ -39,7 +39,7 @@ pub fn read_key(n: usize, m: usize, floor: usize, key: usize) -> Key
 }
 
 // An entry, with n materials and m limits.
-pub fn read_entry(n: usize, m: usize, key: usize, value: i32) -> Entry
+pub fn read_entry(n: usize, m: usize, key: usize, value: i32) -> EntryValue
     requires { ⌜ FewLimits m ⌝ }
     ensures { λ r. ⌜ entryOf r ≡ entryRead n m key value ⌝ }
 {
@@ -47,16 +47,16 @@ pub fn read_entry(n: usize, m: usize, key: usize, value: i32) -> Entry
     let column = key % 64;
     let meaning = meaning_at(n, m, row, column);
     let Meaning::Figure(kind) = meaning else {
-        return Entry::Bad;
+        return EntryValue::Bad;
     };
     if value == 0 {
-        return Entry::Bad;
+        return EntryValue::Bad;
     }
     if !in_range(kind, value) {
-        return Entry::Bad;
+        return EntryValue::Bad;
     }
     let at = place_of(kind, row, column);
-    Entry::Figure {
+    EntryValue::Figure {
         kind: kind,
         at: at,
         value: value,

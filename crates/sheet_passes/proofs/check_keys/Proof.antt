@@ -6,16 +6,15 @@ use Prim.Native.Nat.{ℕ, _+_, _-_, _≤_}
 use native.Mathlib.Omega.{arith}
 use borrow.Author.Needs.{needs}
 use Rattle.rules.specs.Sheet.{Sheet, sheetOf}
-use Rattle.rules.specs.Refusals.{numberOf, numbered, badKey}
+use Rattle.rules.specs.Refusals.{numberOf, numbered, refusalOf, badKey}
 use Rattle.proof_laws.specs.FirstPlace.{first-start, first-end, scan, scan-more, scan-found}
 use Rattle.sheet_kinds.specs.Read.{unless, gives-says, refused-says}
 use Rattle.sheet_entries.specs.KeyRead.{keyOf, keyRead}
-use Rattle.sheet_read.specs.Reading.{refusalOf}
-use Rattle.sheet_read.specs.Passes.{keyRefusal}
-use Rattle.sheet_read.proofs.Header.{materials-is, limits-is, entries-is, in-range}
-use Rattle.sheet_read.proofs.Entry.{floorOf, floor-next, key-test}
-use Rattle.sheet_read.proofs.check_keys.Statement.{statement}
-use Rattle.sheet_read.proofs.check_keys.Tie as tie
+use Rattle.sheet_passes.specs.Keys.{keyRefusal}
+use Rattle.sheet_header.specs.Header.{entries-is, in-range}
+use Rattle.sheet_passes.proofs.Entry.{floorOf, floor-next, key-test}
+use Rattle.sheet_passes.proofs.check_keys.Statement.{statement}
+use Rattle.sheet_passes.proofs.check_keys.Tie as tie
 
 record Turn (S : Sheet) (e floor i : ℕ) : Type 0 where
   within : i ≤ e
@@ -54,7 +53,7 @@ module _ (c : tie.After-read-key Inv-loop μ-loop) where
   read-is =
       let h = start .pre in
       c .read-key .ensures
-      ∙ (λ j. keyRead (materials-is h j) (limits-is h j) (turn .floor-is j) (c .before .size-at .ensures .is j))
+      ∙ (λ j. keyRead (h .sizes j .materials) (h .sizes j .limits) (turn .floor-is j) (c .before .size-at .ensures .is j))
       ∙ (λ j. unless 5 (key-test S i j) (S .key i))
 
 returns : tie.Need-returns Inv-loop μ-loop

@@ -1,11 +1,9 @@
 -- Six numbers of 2 bytes, one after the other.
 use borrow.Author.Needs.{needs}
-use Rattle.sheet_read.specs.Passes.{sizesOf}
-use Rattle.sheet_read.proofs.sizes_of.Statement.{statement}
-use Rattle.sheet_read.proofs.sizes_of.Tie as tie
+use Rattle.sheet_header.proofs.sizes_of.Statement.{statement}
+use Rattle.sheet_header.proofs.sizes_of.Tie as tie
 
 returns : tie.Need-returns
-unfolding sizesOf
 returns c =
     let c5 = c .before in
     let c4 = c5 .before in

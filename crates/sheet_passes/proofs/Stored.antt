@@ -1,5 +1,4 @@
--- The arrays while the entries are read: after e entries, the array of a kind holds what the first e entries say, and one entry more changes
--- one place of one array.
+-- What storing one entry more changes: one place of one array.
 use mathlib.Core.Path.{_≡_, refl, sym, ap, _∙_, transport}
 use mathlib.Core.Bool.{Bool, true, false, cond}
 use mathlib.Core.List.{List}
@@ -8,24 +7,22 @@ use native.Mathlib.Omega.{arith}
 use native.Mathlib.Numerals.{add-one}
 use borrow.Author.Tests.{eqb-true, eqb-false, eq-eqb, ne-eqb}
 use lib.Dec.{eqb}
-use lib.IntN.{ℤ, pos}
-use lib.ListN.{set, replicate}
+use lib.IntN.{ℤ}
+use lib.ListN.{set}
 use Rattle.rules.specs.declared.Kind.{Kind}
 use Rattle.rules.specs.declared.Kind.the-variants.{Cost, Least, Most, Coefficient, Rhs}
-use Rattle.rules.specs.Sheet.{Sheet, rowOf, columnOf, valueUnder, figure, problem}
+use Rattle.rules.specs.Sheet.{Sheet, rowOf, columnOf, valueUnder}
 use Rattle.rules.specs.Ranges.{indexOf, kindAt}
 use Rattle.rules.specs.Refusals.{noFigureAt, badValue}
+use Rattle.proof_laws.specs.Sizes.{SizesInRange}
 use Rattle.proof_laws.specs.Entries.{FigureAt, figure-at, key-parts, parts-key, good-value}
-use Rattle.sheet_figures.specs.Arrays.{placed-cong, placed-set, placed-zero}
-use Rattle.sheet_figures.specs.declared.Figures.{Figures}
-use Rattle.sheet_figures.specs.Figures.{figuresOf}
-use Rattle.sheet_figures.specs.Arrays as figures
+use Rattle.sheet_figures.specs.PartlyFilled.{placed-cong, placed-set}
+use Rattle.sheet_figures.specs.Places.{roomOf, placeOf, hasFigure, rowAt, columnAt, back, there}
 use Rattle.sheet_kinds.specs.Read.{gives, gives-says}
-use Rattle.sheet_entries.specs.EntryRead.{Placed, placeOf, entryPlaced, entryRead}
-use Rattle.sheet_entries.specs.Store.{Storable, roomOf, storeIf, fits}
-use Rattle.sheet_read.specs.Passes.{hasFigure, rowAt, columnAt, arrayAfter}
-use Rattle.sheet_read.proofs.Entry.{value-test}
-use Rattle.sheet_read.proofs.Places.{back, there}
+use Rattle.sheet_entries.specs.EntryRead.{Placed, entryPlaced, entryRead}
+use Rattle.sheet_entries.specs.Store.{Storable, storeIf, in-range-fits}
+use Rattle.sheet_passes.specs.Values.{arrayAfter}
+use Rattle.sheet_passes.proofs.Entry.{value-test}
 
 -- ---- one entry more
 -- a kind is known by its place in the table of ranges
@@ -89,7 +86,7 @@ module _ (S : Sheet) (i : ℕ) where
 
     -- its place and its value fit the array
     storable : badValue S i ≡ false → Storable kind place (S .value i)
-    storable h = record { below = there n m row column narrow few good .below; fits = fits kind (S .value i) (good-value S i h) }
+    storable h = record { below = there n m row column narrow few good .below; fits = in-range-fits kind (S .value i) (good-value S i h) }
 
     -- storing entry i changes the array of its kind ..
     here : set (arrayAfter S kind i) place (S .value i) ≡ arrayAfter S kind (i + 1)
@@ -117,7 +114,7 @@ module _ (S : Sheet) (i : ℕ) where
         by false e = elsewhere mine (λ same. eqb-false _ _ e (ap indexOf same))
 
 -- ---- an entry that was read: it fits its array, and storing it gives the arrays after it
-module _ (S : Sheet) (i : ℕ) (narrow : S .materials ≤ 32) (few : S .limits ≤ 16)
+module _ (S : Sheet) (i : ℕ) (sizes : SizesInRange (S .materials) (S .limits) (S .entries))
     (there : noFigureAt (S .materials) (S .limits) (rowOf (S .key i)) (columnOf (S .key i)) ≡ false)
     {p : Placed} (read : entryRead (S .materials) (S .limits) (S .key i) (S .value i) ≡ gives p) where
   abbrev figure-is : FigureAt (S .materials) (S .limits) (rowOf (S .key i)) (columnOf (S .key i))
@@ -131,30 +128,9 @@ module _ (S : Sheet) (i : ℕ) (narrow : S .materials ≤ 32) (few : S .limits �
   entry-good = says .0
 
   pub entry-fits : Storable (p .kind) (p .place) (p .value)
-  entry-fits = transport (λ j. let q = says .1 j in Storable (q .kind) (q .place) (q .value)) (storable S i narrow few figure-is entry-good)
+  entry-fits = transport (λ j. let q = says .1 j in Storable (q .kind) (q .place) (q .value)) (storable S i (sizes .narrow) (sizes .few) figure-is entry-good)
 
   pub entry-stored : (mine : Kind) {array : List ℤ} → array ≡ arrayAfter S mine i → storeIf mine (p .kind) (p .place) (p .value) array ≡ arrayAfter S mine (i + 1)
   entry-stored mine e =
       (λ j. let q = sym (says .1) j in storeIf mine (q .kind) (q .place) (q .value) (e j))
-      ∙ stored S i narrow few figure-is mine
-
--- ---- before the first entry, and after the last
-pub none-stored : (S : Sheet) (kind : Kind) → arrayAfter S kind 0 ≡ replicate (roomOf kind) (pos 0)
-unfolding arrayAfter valueUnder
-none-stored S kind = placed-zero (roomOf kind) (hasFigure (S .materials) (S .limits) kind)
-
--- the array of a kind among the figures
-abbrev pub arrayIn : Figures → Kind → List ℤ
-arrayIn F Cost = F .cost
-arrayIn F Least = F .least
-arrayIn F Most = F .most
-arrayIn F Coefficient = F .coefficient
-arrayIn F Rhs = F .rhs
-
-pub all-stored : (S : Sheet) (kind : Kind) → arrayAfter S kind (S .entries) ≡ arrayIn (figuresOf (problem S) (S .steps)) kind
-unfolding arrayAfter hasFigure rowAt columnAt roomOf figuresOf problem figure figures.row figures.rows
-all-stored S Cost = refl
-all-stored S Least = refl
-all-stored S Most = refl
-all-stored S Coefficient = refl
-all-stored S Rhs = refl
+      ∙ stored S i (sizes .narrow) (sizes .few) figure-is mine

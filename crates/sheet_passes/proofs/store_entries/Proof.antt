@@ -14,19 +14,20 @@ use Rattle.rules.specs.declared.Kind.{Kind}
 use Rattle.rules.specs.declared.Kind.the-variants.{Cost, Least, Most, Coefficient, Rhs}
 use Rattle.rules.specs.Bytes.{signedAt}
 use Rattle.rules.specs.Sheet.{Sheet, sheetOf, rowOf, columnOf}
-use Rattle.rules.specs.Refusals.{numberOf, numbered, noFigureAt, badValue}
+use Rattle.rules.specs.Refusals.{numberOf, numbered, refusalOf, noFigureAt, badValue}
+use Rattle.proof_laws.specs.Sizes.{SizesInRange}
 use Rattle.proof_laws.specs.FirstPlace.{first-start, first-end, scan, scan-more, scan-found}
 use Rattle.sheet_kinds.specs.Read.{gives, refused-says}
 use Rattle.sheet_entries.specs.EntryRead.{Placed, entryOf, entryRead}
 use Rattle.sheet_entries.specs.Store.{Storable, storeIf}
-use Rattle.sheet_read.specs.declared.Verdict.{Verdict}
-use Rattle.sheet_read.specs.Reading.{refusalOf}
-use Rattle.sheet_read.specs.Passes.{Stored, storedBy, valueRefusal, arrayAfter}
-use Rattle.sheet_read.proofs.Header.{materials-is, limits-is, entries-is, in-range, narrow, few, figure-there}
-use Rattle.sheet_read.proofs.Entry.{value-test}
-use Rattle.sheet_read.proofs.Stored.{entry-good, entry-fits, entry-stored}
-use Rattle.sheet_read.proofs.store_entries.Statement.{statement}
-use Rattle.sheet_read.proofs.store_entries.Tie as tie
+use Rattle.rules.specs.declared.Verdict.{Verdict}
+use Rattle.sheet_passes.specs.Keys.{figure-there}
+use Rattle.sheet_passes.specs.Values.{Stored, storedBy, valueRefusal, arrayAfter}
+use Rattle.sheet_header.specs.Header.{entries-is, in-range, sheet-in-range}
+use Rattle.sheet_passes.proofs.Entry.{value-test}
+use Rattle.sheet_passes.proofs.Stored.{entry-good, entry-fits, entry-stored}
+use Rattle.sheet_passes.proofs.store_entries.Statement.{statement}
+use Rattle.sheet_passes.proofs.store_entries.Tie as tie
 
 record Turn (S : Sheet) (e : ℕ) (cost least most coefficient rhs : List ℤ) (i : ℕ) : Type 0 where
   within : i ≤ e
@@ -76,7 +77,7 @@ module _ (c : tie.After-read-entry Inv-loop μ-loop) where
       let fits : SFits w32 value = search needs in
       let same : toZ w32 (ofZ w32 value) ≡ S .value i
       = toZ-ofZ fits ∙ c .before .signed-32 .ensures ∙ (λ j. signedAt 4 (start .args .s .now) (12 + 2 * entries-is h j + 4 * i)) in
-      c .read-entry .ensures ∙ (λ j. entryRead (materials-is h j) (limits-is h j) (c .before .before .size-at .ensures .is j) (same j))
+      c .read-entry .ensures ∙ (λ j. entryRead (h .sizes j .materials) (h .sizes j .limits) (c .before .before .size-at .ensures .is j) (same j))
 
 returns : tie.Need-returns Inv-loop μ-loop
 unfolding refusalOf numbered numberOf valueRefusal storedBy entryOf entryRead
@@ -102,14 +103,20 @@ module _ (c : tie.After-known-told Inv-loop μ-loop) where
   value-kept : toZ w32 (ofZ w32 (placed .value)) ≡ placed .value
   value-kept = let fits : SFits w32 (placed .value) = search needs in toZ-ofZ fits
 
+  sizes : SizesInRange (S entry .materials) (S entry .limits) (S entry .entries)
+  sizes = sheet-in-range (start entry .pre .keyed .headed)
+
+  good : badValue (S entry) (i entry) ≡ false
+  good = entry-good (S entry) (i entry) sizes (there entry) read
+
   fits : Storable (placed .kind) (placed .place) (placed .value)
-  fits = let h = start entry .pre .keyed .headed in entry-fits (S entry) (i entry) (narrow h) (few h) (there entry) read
+  fits = entry-fits (S entry) (i entry) sizes (there entry) read
 
   after : (mine : Kind) {array : List ℤ} → array ≡ arrayAfter (S entry) mine (i entry)
       → storeIf mine (placed .kind) (placed .place) (toZ w32 (ofZ w32 (placed .value))) array ≡ arrayAfter (S entry) mine (i entry + 1)
   after mine {array} e =
-      let h = start entry .pre .keyed .headed in
-      (λ j. storeIf mine (placed .kind) (placed .place) (value-kept j) array) ∙ entry-stored (S entry) (i entry) (narrow h) (few h) (there entry) read mine e
+      (λ j. storeIf mine (placed .kind) (placed .place) (value-kept j) array)
+      ∙ entry-stored (S entry) (i entry) sizes (there entry) read mine e
 
 store-requires : tie.Need-store-requires Inv-loop μ-loop
 store-requires c κs = let told = c .before .before .before .before .before in rw (value-kept told) (fits told)
@@ -117,12 +124,11 @@ store-requires c κs = let told = c .before .before .before .before .before in r
 loop-again : tie.Need-loop-again Inv-loop μ-loop
 loop-again c =
     let told = c .before .before .before .before .before .before in
-    let h = start (entry told) .pre .keyed .headed in
     let t = turn (entry told) .loop .inv in
     let (cost, (least, (most, (coefficient, rhs)))) = c .store .ensures in
     record {
       within = omega arith;
-      values = scan-more 6 (badValue (S (entry told))) (t .values) (entry-good (S (entry told)) (i (entry told)) (narrow h) (few h) (there (entry told)) (read told));
+      values = scan-more 6 (badValue (S (entry told))) (t .values) (good told);
       arrays = record {
         costs = cost ∙ after told Cost (t .arrays .costs);
         leasts = least ∙ after told Least (t .arrays .leasts);

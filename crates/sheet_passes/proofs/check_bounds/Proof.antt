@@ -12,12 +12,11 @@ use mir.Val.{SFits, toZ, ofZ}
 use mir.Facts.{toZ-ofZ}
 use borrow.Author.Needs.{needs}
 use Rattle.rules.specs.Notation.{at}
-use Rattle.rules.specs.Refusals.{numberOf, numbered}
+use Rattle.rules.specs.Refusals.{numberOf, numbered, refusalOf}
 use Rattle.proof_laws.specs.FirstPlace.{first-start, first-end, scan, scan-more, scan-found}
-use Rattle.sheet_read.specs.Reading.{refusalOf}
-use Rattle.sheet_read.specs.Passes.{crossedRefusal}
-use Rattle.sheet_read.proofs.check_bounds.Statement.{statement}
-use Rattle.sheet_read.proofs.check_bounds.Tie as tie
+use Rattle.sheet_passes.specs.Bounds.{crossedRefusal}
+use Rattle.sheet_passes.proofs.check_bounds.Statement.{statement}
+use Rattle.sheet_passes.proofs.check_bounds.Tie as tie
 
 abbrev crossed : List ℤ → List ℤ → ℕ → Bool
 crossed least most j = ltZ (at most j) (at least j)

@@ -1,0 +1,88 @@
+// The passes over a sheet whose header is passed: the keys, the values, and the bounds. Refusals 5 to 7.
+ghost use mathlib.Core.Path.{_≡_};
+ghost use Rattle.rules.specs.Sheet.{sheetOf};
+ghost use Rattle.rules.specs.Refusals.{refusalOf};
+ghost use Rattle.sheet_header.specs.Header.{Headed};
+ghost use Rattle.sheet_passes.specs.Keys.{keyRefusal};
+ghost use Rattle.sheet_passes.specs.Values.{ReadyToStore, Stored, storedBy, valueRefusal};
+ghost use Rattle.sheet_passes.specs.Bounds.{FewMaterials, crossedRefusal};
+use bytes_read::signed_32;
+use bytes_read::size_at;
+use rules::Cause;
+use rules::Verdict;
+use sheet_entries::EntryValue;
+use sheet_entries::Key;
+use sheet_entries::read_entry;
+use sheet_entries::read_key;
+use sheet_entries::store;
+use sheet_header::Sizes;
+use sheet_header::refused;
+
+// Refusal 5: the first entry whose key is bad.
+pub fn check_keys(s: &[u8], sizes: Sizes) -> Verdict
+    requires { ⌜ Headed (now s) sizes ⌝ }
+    ensures { λ r. ⌜ refusalOf r ≡ keyRefusal (sheetOf (now (s .entry))) ⌝ }
+{
+    let n = sizes.materials;
+    let m = sizes.limits;
+    let e = sizes.entries;
+    let mut floor: usize = 0;
+    let mut i: usize = 0;
+    while i < e {
+        let read = read_key(n, m, floor, size_at(s, 12 + 2 * i));
+        let Key::Good(key) = read else {
+            return refused(i, Cause::Key);
+        };
+        floor = key + 1;
+        i += 1;
+    }
+    Verdict::Passed
+}
+
+// Refusal 6: the first entry whose value is bad. The values of the entries before it are stored.
+pub fn store_entries(
+    s: &[u8],
+    sizes: Sizes,
+    cost: &mut [i16; 32],
+    least: &mut [i16; 32],
+    most: &mut [i16; 32],
+    coefficient: &mut [i16; 512],
+    rhs: &mut [i32; 16],
+) -> Verdict
+    requires { ⌜ ReadyToStore (now s) sizes (now cost) (now least) (now most) (now coefficient) (now rhs) ⌝ }
+    ensures { λ r. ⌜ refusalOf r ≡ valueRefusal (sheetOf (now (s .entry))) ⌝ }
+    ensures { λ r. ⌜
+        Stored (sheetOf (now (s .entry))) (storedBy r (sizes .entries))
+            (now (cost .exit)) (now (least .exit)) (now (most .exit)) (now (coefficient .exit)) (now (rhs .exit))
+    ⌝ }
+{
+    let n = sizes.materials;
+    let m = sizes.limits;
+    let e = sizes.entries;
+    let mut i: usize = 0;
+    while i < e {
+        let key = size_at(s, 12 + 2 * i);
+        let entry = read_entry(n, m, key, signed_32(s, 12 + 2 * e + 4 * i));
+        let EntryValue::Figure { kind, at, value } = entry else {
+            return refused(i, Cause::Value);
+        };
+        store(kind, at, value, cost, least, most, coefficient, rhs);
+        i += 1;
+    }
+    Verdict::Passed
+}
+
+// Refusal 7: the first material whose least amount is above its most.
+pub fn check_bounds(n: usize, least: &[i16; 32], most: &[i16; 32]) -> Verdict
+    requires { ⌜ FewMaterials n ⌝ }
+    ensures { λ r. ⌜ refusalOf r ≡ crossedRefusal n (now (least .entry)) (now (most .entry)) ⌝ }
+{
+    let mut j: usize = 0;
+    while j < n {
+        if most[j] < least[j] {
+            return refused(j, Cause::Bounds);
+        }
+        j += 1;
+    }
+    Verdict::Passed
+}
