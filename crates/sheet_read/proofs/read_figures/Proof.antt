@@ -2,20 +2,20 @@
 use mathlib.Core.Path.{_≡_, refl, sym, ap, _∙_}
 use mathlib.Core.List.{List}
 use mathlib.Core.Option.{none}
-use native.Mathlib.Omega.{arith}
 use lib.IntN.{ℤ}
 use borrow.Author.Needs.{needs}
 use Rattle.rules.specs.declared.Kind.{Kind}
 use Rattle.rules.specs.declared.Kind.the-variants.{Cost, Least, Most, Coefficient, Rhs}
+use Rattle.rules.specs.declared.Verdict.{Verdict}
 use Rattle.rules.specs.Sheet.{Sheet, sheetOf, problem}
+use Rattle.rules.specs.Refusals.{refusalOf}
 use Rattle.proof_laws.specs.FirstPlace.{given, handed-on}
 use Rattle.sheet_figures.specs.Figures.{figuresOf}
-use Rattle.sheet_read.specs.declared.Verdict.{Verdict}
-use Rattle.sheet_read.specs.Reading.{refusalOf}
-use Rattle.sheet_entries.specs.Store.{roomOf}
-use Rattle.sheet_read.specs.Passes.{storedBy, arrayAfter, valueRefusal, crossedRefusal, boundRefusal, figuresRefusal}
-use Rattle.sheet_read.proofs.Header.{materials-is, limits-is, numerator-is, scale-is, steps-is, entries-is, in-range, narrow}
-use Rattle.sheet_read.proofs.Stored.{arrayIn, none-stored, all-stored}
+use Rattle.sheet_figures.specs.Places.{roomOf}
+use Rattle.sheet_header.specs.Header.{entries-is, in-range, sheet-in-range}
+use Rattle.sheet_passes.specs.Values.{storedBy, arrayAfter, valueRefusal, arrayIn, none-stored, all-stored}
+use Rattle.sheet_passes.specs.Bounds.{crossedRefusal}
+use Rattle.sheet_read.specs.Reading.{boundRefusal, figuresRefusal}
 use Rattle.sheet_read.proofs.Chain.{crossed-is}
 use Rattle.sheet_read.proofs.Outcome.{turned-back, read-whole}
 use Rattle.sheet_read.proofs.read_figures.Statement.{statement}
@@ -70,7 +70,7 @@ module _ (c : tie.After-enum-told) where
   filled kind e = e ∙ ap (arrayAfter (S stored) kind) all ∙ all-stored (S stored) kind
 
 check-bounds-requires : tie.Need-check-bounds-requires
-check-bounds-requires c κs = let d = in-range (start (stored (c .before .before)) .pre .headed) in omega arith
+check-bounds-requires c κs = record { narrow = in-range (start (stored (c .before .before)) .pre .headed) .narrow }
 
 -- refusals 6 and 7, in the definition's terms
 module _ (c : tie.After-check-bounds) where
@@ -83,8 +83,8 @@ module _ (c : tie.After-check-bounds) where
       let h = start (stored good) .pre .headed in
       let arrays = stored good .store-entries .ensures .1 in
       c .check-bounds .ensures
-      ∙ (λ j. crossedRefusal (materials-is h j) (filled good Least (arrays .leasts) j) (filled good Most (arrays .mosts) j))
-      ∙ crossed-is (S (stored good)) (narrow h)
+      ∙ (λ j. crossedRefusal (h .sizes j .materials) (filled good Least (arrays .leasts) j) (filled good Most (arrays .mosts) j))
+      ∙ crossed-is (S (stored good)) (sheet-in-range h .narrow)
       ∙ sym (handed-on (boundRefusal (S (stored good))) (values good))
 
 returns-2 : tie.Need-returns-2
@@ -103,11 +103,11 @@ returns-3 c =
     read-whole (S (stored (good checked))) refl (sym (bounds checked) ∙ ap refusalOf (c .enum-told3 .given .1))
     (λ j.
     record {
-      materials = materials-is h j;
-      limits = limits-is h j;
-      numerator = numerator-is h j;
-      scale = scale-is h j;
-      steps = steps-is h j;
+      materials = h .sizes j .materials;
+      limits = h .sizes j .limits;
+      numerator = h .sizes j .numerator;
+      scale = h .sizes j .scale;
+      steps = h .sizes j .steps;
       cost = filled (good checked) Cost (arrays .costs) j;
       least = filled (good checked) Least (arrays .leasts) j;
       most = filled (good checked) Most (arrays .mosts) j;

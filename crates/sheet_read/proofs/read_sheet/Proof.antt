@@ -6,12 +6,11 @@ use Prim.Native.Nat.{ℕ, _≤_}
 use lib.ListN.{length}
 use borrow.Author.Needs.{needs}
 use Rattle.rules.specs.Sheet.{sheetOf}
-use Rattle.rules.specs.Refusals.{numberOf, numbered}
-use Rattle.proof_laws.specs.Sizes.{dimensions}
+use Rattle.rules.specs.Refusals.{numberOf, numbered, refusalOf}
 use Rattle.proof_laws.specs.FirstPlace.{given}
-use Rattle.sheet_read.specs.Reading.{refusalOf}
-use Rattle.sheet_read.specs.Passes.{Headed, sizesOf, headerRefusal, keyRefusal}
-use Rattle.sheet_read.proofs.Chain.{reads, short, after-short, after-header, after-keys, header-says}
+use Rattle.sheet_header.specs.Header.{Headed, sizesOf, headerRefusal, headed}
+use Rattle.sheet_passes.specs.Keys.{keyRefusal}
+use Rattle.sheet_read.proofs.Chain.{reads, short, after-short, after-header, after-keys}
 use Rattle.sheet_read.proofs.Outcome.{turned-back, told-as}
 use Rattle.sheet_read.proofs.read_sheet.Statement.{statement}
 use Rattle.sheet_read.proofs.read_sheet.Tie as tie
@@ -53,15 +52,14 @@ module _ (c : tie.After-enum-told) where
   unfolding refusalOf
   no-header = sym (header header-of) ∙ ap refusalOf (c .enum-told .given .1)
 
-  headed : Headed (s header-of) (header-of .before .sizes-of .result)
+  passed : Headed (s header-of) (header-of .before .sizes-of .result)
   unfolding refusalOf
-  headed =
-      let z = header-of .before .sizes-of .result in
-      let (dimensions, long) = header-says (length (s header-of)) z (sym (header-of .check-header .ensures) ∙ ap refusalOf (c .enum-told .given .1)) in
-      record { sizes = header-of .before .sizes-of .ensures; dimensions = dimensions; long = long }
+  passed =
+      headed (s header-of) (header-of .before .sizes-of .ensures)
+      (sym (header-of .check-header .ensures) ∙ ap refusalOf (c .enum-told .given .1))
 
 check-keys-requires : tie.Need-check-keys-requires
-check-keys-requires c κs = headed c
+check-keys-requires c κs = passed c
 
 returns-3 : tie.Need-returns-3
 unfolding refusalOf
@@ -87,7 +85,7 @@ module _ (c : tie.After-enum-told3) where
   no-keys = sym (c .before .before .check-keys .ensures) ∙ ap refusalOf (c .enum-told3 .given .1)
 
 read-figures-requires : tie.Need-read-figures-requires
-read-figures-requires c κs = record { headed = headed (passed-of c); keys = no-keys c }
+read-figures-requires c κs = record { headed = passed (passed-of c); keys = no-keys c }
 
 returns-4 : tie.Need-returns-4
 returns-4 c =
