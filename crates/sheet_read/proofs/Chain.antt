@@ -14,9 +14,9 @@ use Rattle.proof_laws.specs.FirstPlace.{refuse-yes, refuse-no, given, handed-on
 use Rattle.sheet_figures.specs.PartlyFilled.{row-holds}
 use Rattle.sheet_figures.specs.Figures.{figuresOf, figures-hold}
 use Rattle.sheet_header.specs.Header.{sizesOf, headerRefusal}
-use Rattle.sheet_passes.specs.Keys.{keyRefusal}
-use Rattle.sheet_passes.specs.Values.{valueRefusal}
-use Rattle.sheet_passes.specs.Bounds.{crossedRefusal}
+use Rattle.sheet_checks.specs.Keys.{keyRefusal}
+use Rattle.sheet_store.specs.Values.{valueRefusal}
+use Rattle.sheet_checks.specs.Bounds.{crossedRefusal}
 use Rattle.sheet_read.specs.declared.Reading.{Reading}
 use Rattle.sheet_read.specs.Reading.{figuresUnless, ReadsAs, boundRefusal, figuresRefusal, Reads}
 

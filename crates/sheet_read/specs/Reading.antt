@@ -8,7 +8,7 @@ use Rattle.rules.specs.Sheet.{Sheet, sheetOf, problem}
 use Rattle.rules.specs.Refusals.{Numbered, refusalOf, refuse, _otherwise_, firstBelow, crossed, layoutRefusal}
 use Rattle.sheet_figures.specs.declared.Figures.{Figures}
 use Rattle.sheet_figures.specs.Figures.{FiguresHold, figuresOf, noFigures}
-use Rattle.sheet_passes.specs.Values.{valueRefusal}
+use Rattle.sheet_store.specs.Values.{valueRefusal}
 use Rattle.sheet_read.specs.declared.Reading.{Reading}
 
 -- the figures of a sheet; where it is refused, every one is 0

@@ -2,7 +2,7 @@
 ghost use mathlib.Core.Path.{_≡_};
 ghost use Rattle.rules.specs.Sheet.{sheetOf};
 ghost use Rattle.sheet_figures.specs.Figures.{noFigures};
-ghost use Rattle.sheet_passes.specs.Keys.{Keyed};
+ghost use Rattle.sheet_checks.specs.Keys.{Keyed};
 ghost use Rattle.sheet_read.specs.Reading.{withoutFigures, ReadsAs, figuresRefusal, Reads};
 use rules::Cause;
 use rules::Verdict;
@@ -11,9 +11,9 @@ use sheet_header::Sizes;
 use sheet_header::check_header;
 use sheet_header::refused;
 use sheet_header::sizes_of;
-use sheet_passes::check_bounds;
-use sheet_passes::check_keys;
-use sheet_passes::store_entries;
+use sheet_checks::check_bounds;
+use sheet_checks::check_keys;
+use sheet_store::store_entries;
 
 // What reading a sheet gives. Where it is refused, every figure is 0.
 pub struct Reading {

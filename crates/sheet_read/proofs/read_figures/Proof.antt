@@ -13,8 +13,8 @@ use Rattle.proof_laws.specs.FirstPlace.{given, handed-on}
 use Rattle.sheet_figures.specs.Figures.{figuresOf}
 use Rattle.sheet_figures.specs.Places.{roomOf}
 use Rattle.sheet_header.specs.Header.{entries-is, in-range, sheet-in-range}
-use Rattle.sheet_passes.specs.Values.{storedBy, arrayAfter, valueRefusal, arrayIn, none-stored, all-stored}
-use Rattle.sheet_passes.specs.Bounds.{crossedRefusal}
+use Rattle.sheet_store.specs.Values.{storedBy, arrayAfter, valueRefusal, arrayIn, none-stored, all-stored}
+use Rattle.sheet_checks.specs.Bounds.{crossedRefusal}
 use Rattle.sheet_read.specs.Reading.{boundRefusal, figuresRefusal}
 use Rattle.sheet_read.proofs.Chain.{crossed-is}
 use Rattle.sheet_read.proofs.Outcome.{turned-back, read-whole}

@@ -9,7 +9,7 @@ use Rattle.rules.specs.Sheet.{sheetOf}
 use Rattle.rules.specs.Refusals.{numberOf, numbered, refusalOf}
 use Rattle.proof_laws.specs.FirstPlace.{given}
 use Rattle.sheet_header.specs.Header.{Headed, sizesOf, headerRefusal, headed}
-use Rattle.sheet_passes.specs.Keys.{keyRefusal}
+use Rattle.sheet_checks.specs.Keys.{keyRefusal}
 use Rattle.sheet_read.proofs.Chain.{reads, short, after-short, after-header, after-keys}
 use Rattle.sheet_read.proofs.Outcome.{turned-back, told-as}
 use Rattle.sheet_read.proofs.read_sheet.Statement.{statement}

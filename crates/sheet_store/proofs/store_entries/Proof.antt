@@ -21,13 +21,12 @@ use Rattle.sheet_kinds.specs.Read.{gives, refused-says}
 use Rattle.sheet_entries.specs.EntryRead.{Placed, entryOf, entryRead}
 use Rattle.sheet_entries.specs.Store.{Storable, storeIf}
 use Rattle.rules.specs.declared.Verdict.{Verdict}
-use Rattle.sheet_passes.specs.Keys.{figure-there}
-use Rattle.sheet_passes.specs.Values.{Stored, storedBy, valueRefusal, arrayAfter}
+use Rattle.sheet_checks.specs.Keys.{figure-there}
+use Rattle.sheet_store.specs.Values.{Stored, storedBy, valueRefusal, arrayAfter}
 use Rattle.sheet_header.specs.Header.{entries-is, in-range, sheet-in-range}
-use Rattle.sheet_passes.proofs.Entry.{value-test}
-use Rattle.sheet_passes.proofs.Stored.{entry-good, entry-fits, entry-stored}
-use Rattle.sheet_passes.proofs.store_entries.Statement.{statement}
-use Rattle.sheet_passes.proofs.store_entries.Tie as tie
+use Rattle.sheet_store.proofs.Stored.{value-test, entry-good, entry-fits, entry-stored}
+use Rattle.sheet_store.proofs.store_entries.Statement.{statement}
+use Rattle.sheet_store.proofs.store_entries.Tie as tie
 
 record Turn (S : Sheet) (e : ℕ) (cost least most coefficient rhs : List ℤ) (i : ℕ) : Type 0 where
   within : i ≤ e

@@ -16,7 +16,7 @@ use Rattle.sheet_figures.specs.PartlyFilled.{placed, row, rows, placed-zero}
 use Rattle.sheet_figures.specs.Figures.{figuresOf}
 use Rattle.sheet_figures.specs.Places.{roomOf, hasFigure, rowAt, columnAt}
 use Rattle.sheet_header.specs.declared.Sizes.{Sizes}
-use Rattle.sheet_passes.specs.Keys.{Keyed}
+use Rattle.sheet_checks.specs.Keys.{Keyed}
 
 -- refusal 6, over the whole sheet
 unfoldable pub valueRefusal : Sheet → Option Numbered

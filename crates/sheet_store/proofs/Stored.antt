@@ -19,10 +19,9 @@ use Rattle.proof_laws.specs.Entries.{FigureAt, figure-at, key-parts, parts-key,
 use Rattle.sheet_figures.specs.PartlyFilled.{placed-cong, placed-set}
 use Rattle.sheet_figures.specs.Places.{roomOf, placeOf, hasFigure, rowAt, columnAt, back, there}
 use Rattle.sheet_kinds.specs.Read.{gives, gives-says}
-use Rattle.sheet_entries.specs.EntryRead.{Placed, entryPlaced, entryRead}
+use Rattle.sheet_entries.specs.EntryRead.{Placed, entryBad, entryPlaced, entryRead}
 use Rattle.sheet_entries.specs.Store.{Storable, storeIf, in-range-fits}
-use Rattle.sheet_passes.specs.Values.{arrayAfter}
-use Rattle.sheet_passes.proofs.Entry.{value-test}
+use Rattle.sheet_store.specs.Values.{arrayAfter}
 
 -- ---- one entry more
 -- a kind is known by its place in the table of ranges
@@ -112,6 +111,12 @@ module _ (S : Sheet) (i : ℕ) where
             → cond b (set (arrayAfter S mine i) place (S .value i)) (arrayAfter S mine i) ≡ arrayAfter S mine (i + 1)
         by true e = let same : mine ≡ kind = sym (kind-index mine) ∙ ap kindOf (eqb-true _ _ e) ∙ kind-index kind in rw same here
         by false e = elsewhere mine (λ same. eqb-false _ _ e (ap indexOf same))
+
+-- ---- where a figure stands, the test of an entry is that of refusal 6
+pub value-test : (S : Sheet) (i : ℕ) → noFigureAt (S .materials) (S .limits) (rowOf (S .key i)) (columnOf (S .key i)) ≡ false
+    → entryBad (S .materials) (S .limits) (S .key i) (S .value i) ≡ badValue S i
+unfolding badValue
+value-test S i h = rw h
 
 -- ---- an entry that was read: it fits its array, and storing it gives the arrays after it
 module _ (S : Sheet) (i : ℕ) (sizes : SizesInRange (S .materials) (S .limits) (S .entries))

@@ -10,11 +10,11 @@ use Rattle.rules.specs.Refusals.{numberOf, numbered, refusalOf, badKey}
 use Rattle.proof_laws.specs.FirstPlace.{first-start, first-end, scan, scan-more, scan-found}
 use Rattle.sheet_kinds.specs.Read.{unless, gives-says, refused-says}
 use Rattle.sheet_entries.specs.KeyRead.{keyOf, keyRead}
-use Rattle.sheet_passes.specs.Keys.{keyRefusal}
+use Rattle.sheet_checks.specs.Keys.{keyRefusal}
 use Rattle.sheet_header.specs.Header.{entries-is, in-range}
-use Rattle.sheet_passes.proofs.Entry.{floorOf, floor-next, key-test}
-use Rattle.sheet_passes.proofs.check_keys.Statement.{statement}
-use Rattle.sheet_passes.proofs.check_keys.Tie as tie
+use Rattle.sheet_checks.proofs.Floor.{floorOf, floor-next, key-test}
+use Rattle.sheet_checks.proofs.check_keys.Statement.{statement}
+use Rattle.sheet_checks.proofs.check_keys.Tie as tie
 
 record Turn (S : Sheet) (e floor i : ℕ) : Type 0 where
   within : i ≤ e

@@ -1,4 +1,4 @@
--- What reading entry i of a sheet says: the tests of its key and its value are those of refusals 5 and 6.
+-- The least key that an entry may have: the test of a key against it is that of refusal 5.
 use mathlib.Core.Path.{_≡_, refl}
 use mathlib.Core.Bool.{Bool, true, false}
 use Prim.Native.Nat.{ℕ, zero, suc, _+_}
@@ -6,10 +6,9 @@ use native.Mathlib.Omega.{arith}
 use native.Mathlib.Numerals.{add-one}
 use borrow.Author.Tests.{lt-ltb, le-ltb, leb-true, leb-false}
 use lib.Dec.{ltb, leb}
-use Rattle.rules.specs.Sheet.{Sheet, rowOf, columnOf}
-use Rattle.rules.specs.Refusals.{noFigureAt, notAbove, badKey, badValue}
+use Rattle.rules.specs.Sheet.{Sheet}
+use Rattle.rules.specs.Refusals.{notAbove, badKey}
 use Rattle.sheet_entries.specs.KeyRead.{keyBad}
-use Rattle.sheet_entries.specs.EntryRead.{entryBad}
 
 -- the least key that entry i may have: above the key before, if there is one
 unfoldable pub floorOf : Sheet → ℕ → ℕ
@@ -33,12 +32,6 @@ unfolding floorOf notAbove
 floor-test S zero = le-ltb (S .key 0) 0 (omega arith)
 floor-test S (suc i) = below-next (S .key (suc i)) (S .key i)
 
-module _ (S : Sheet) (i : ℕ) where
-  pub key-test : keyBad (S .materials) (S .limits) (floorOf S i) (S .key i) ≡ badKey S i
-  unfolding badKey
-  key-test = rw (floor-test S i)
-
-  pub value-test : noFigureAt (S .materials) (S .limits) (rowOf (S .key i)) (columnOf (S .key i)) ≡ false
-      → entryBad (S .materials) (S .limits) (S .key i) (S .value i) ≡ badValue S i
-  unfolding badValue
-  value-test h = rw h
+pub key-test : (S : Sheet) (i : ℕ) → keyBad (S .materials) (S .limits) (floorOf S i) (S .key i) ≡ badKey S i
+unfolding badKey
+key-test S i = rw (floor-test S i)

@@ -14,15 +14,12 @@ use borrow.Author.Needs.{needs}
 use Rattle.rules.specs.Notation.{at}
 use Rattle.rules.specs.Refusals.{numberOf, numbered, refusalOf}
 use Rattle.proof_laws.specs.FirstPlace.{first-start, first-end, scan, scan-more, scan-found}
-use Rattle.sheet_passes.specs.Bounds.{crossedRefusal}
-use Rattle.sheet_passes.proofs.check_bounds.Statement.{statement}
-use Rattle.sheet_passes.proofs.check_bounds.Tie as tie
-
-abbrev crossed : List ℤ → List ℤ → ℕ → Bool
-crossed least most j = ltZ (at most j) (at least j)
+use Rattle.sheet_checks.specs.Bounds.{crossedAt, crossedRefusal}
+use Rattle.sheet_checks.proofs.check_bounds.Statement.{statement}
+use Rattle.sheet_checks.proofs.check_bounds.Tie as tie
 
 abbrev Inv-loop : tie.InvT-loop
-Inv-loop n least most j₀ j = (j ≤ n) × (scan 7 (crossed least most) j ≡ none)
+Inv-loop n least most j₀ j = (j ≤ n) × (scan 7 (crossedAt least most) j ≡ none)
 
 abbrev μ-loop : tie.MeasureT-loop
 μ-loop n least most j₀ j = n - j
@@ -44,10 +41,10 @@ module _ (c : tie.After-if13 Inv-loop μ-loop) where
   abbrev most : List ℤ
   most = s .args .most .now
 
-  before : scan 7 (crossed least most) j ≡ none
+  before : scan 7 (crossedAt least most) j ≡ none
   before = c .before .before .before .loop .inv .1
 
-  test-is : (b : Bool) → ltZ (toZ w16 (ofZ w16 (at most j))) (toZ w16 (ofZ w16 (at least j))) ≡ b → ltZ (at most j) (at least j) ≡ b
+  test-is : (b : Bool) → ltZ (toZ w16 (ofZ w16 (at most j))) (toZ w16 (ofZ w16 (at least j))) ≡ b → crossedAt least most j ≡ b
   test-is b h =
       let least-fits : SFits w16 (at least j) = search needs in
       let most-fits : SFits w16 (at most j) = search needs in
@@ -58,12 +55,12 @@ unfolding refusalOf numbered numberOf crossedRefusal
 returns c =
     let a = c .before .before in
     ap refusalOf (c .refused .ensures)
-    ∙ sym (scan-found 7 (crossed (least a) (most a)) (s a .args .n) (omega arith) (before a) (test-is a true (c .before .if1 .taken)))
+    ∙ sym (scan-found 7 (crossedAt (least a) (most a)) (s a .args .n) (omega arith) (before a) (test-is a true (c .before .if1 .taken)))
 
 loop-again : tie.Need-loop-again Inv-loop μ-loop
 loop-again c =
     let a = c .before in
-    (omega arith, scan-more 7 (crossed (least a) (most a)) (before a) (test-is a false (c .if1 .left)))
+    (omega arith, scan-more 7 (crossedAt (least a) (most a)) (before a) (test-is a false (c .if1 .left)))
 
 returns-2 : tie.Need-returns-2 Inv-loop μ-loop
 unfolding refusalOf crossedRefusal
