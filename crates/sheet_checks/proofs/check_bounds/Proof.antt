@@ -27,22 +27,22 @@ abbrev μ-loop : tie.MeasureT-loop
 loop-holds : tie.Need-loop-holds Inv-loop μ-loop
 loop-holds c = (omega arith, first-start _)
 
--- the test compares the amounts as they stand in the arrays
+-- ---- the test at material j compares the amounts as they stand in the arrays
 module _ (c : tie.After-if13 Inv-loop μ-loop) where
-  abbrev s : tie.Start Inv-loop μ-loop
-  s = c .before .before .before .before
+  abbrev turn : tie.At-loop Inv-loop μ-loop
+  turn = c .before .before .before
 
   abbrev j : ℕ
-  j = c .before .before .before .loop .j
+  j = turn .loop .j
 
   abbrev least : List ℤ
-  least = s .args .least .now
+  least = turn .before .args .least .now
 
   abbrev most : List ℤ
-  most = s .args .most .now
+  most = turn .before .args .most .now
 
   before : scan 7 (crossedAt least most) j ≡ none
-  before = c .before .before .before .loop .inv .1
+  before = turn .loop .inv .1
 
   test-is : (b : Bool) → ltZ (toZ w16 (ofZ w16 (at most j))) (toZ w16 (ofZ w16 (at least j))) ≡ b → crossedAt least most j ≡ b
   test-is b h =
@@ -53,9 +53,11 @@ module _ (c : tie.After-if13 Inv-loop μ-loop) where
 returns : tie.Need-returns Inv-loop μ-loop
 unfolding refusalOf numbered numberOf crossedRefusal
 returns c =
-    let a = c .before .before in
+    let taken = c .before in
+    let a = taken .before in
+    let n = turn a .before .args .n in
     ap refusalOf (c .refused .ensures)
-    ∙ sym (scan-found 7 (crossedAt (least a) (most a)) (s a .args .n) (omega arith) (before a) (test-is a true (c .before .if1 .taken)))
+    ∙ sym (scan-found 7 (crossedAt (least a) (most a)) n (omega arith) (before a) (test-is a true (taken .if1 .taken)))
 
 loop-again : tie.Need-loop-again Inv-loop μ-loop
 loop-again c =
@@ -65,8 +67,9 @@ loop-again c =
 returns-2 : tie.Need-returns-2 Inv-loop μ-loop
 unfolding refusalOf crossedRefusal
 returns-2 c =
-    let all : c .before .loop .j ≡ c .before .before .args .n = omega arith in
-    sym (first-end _ all (c .before .loop .inv .1))
+    let ended = c .before in
+    let all : ended .loop .j ≡ ended .before .args .n = omega arith in
+    sym (first-end _ all (ended .loop .inv .1))
 
 pub check-bounds-spec : {M : Type 1} → statement M
 check-bounds-spec =

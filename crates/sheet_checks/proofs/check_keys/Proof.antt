@@ -31,52 +31,66 @@ loop-holds : tie.Need-loop-holds Inv-loop μ-loop
 unfolding floorOf
 loop-holds c = record { within = omega arith; keys = first-start _; floor-is = refl }
 
-read-key-requires : tie.Need-read-key-requires Inv-loop μ-loop
-read-key-requires c κs = record { few = in-range (c .before .before .before .before .pre) .few }
-
--- what was read is the key of entry i
-module _ (c : tie.After-read-key Inv-loop μ-loop) where
+-- ---- a turn: entry i
+module _ (c : tie.In-loop Inv-loop μ-loop) where
   abbrev start : tie.Start Inv-loop μ-loop
-  start = c .before .before .before .before .before
+  start = c .before .before .before
 
   abbrev S : Sheet
   S = sheetOf (start .args .s .now)
 
   abbrev i : ℕ
-  i = c .before .before .before .loop .i
+  i = c .before .loop .i
 
-  abbrev turn : Turn S (start .args .sizes .entries) (c .before .before .before .loop .floor) i
-  turn = c .before .before .before .loop .inv
+  abbrev turn : Turn S (start .args .sizes .entries) (c .before .loop .floor) i
+  turn = c .before .loop .inv
 
-  read-is : keyOf (c .read-key .result) ≡ unless 5 (badKey S i) (S .key i)
+read-key-requires : tie.Need-read-key-requires Inv-loop μ-loop
+read-key-requires c κs = record { few = in-range (start (c .before) .pre) .few }
+
+-- ---- what was read is its key
+module _ (c : tie.After-read-key Inv-loop μ-loop) where
+  abbrev here : tie.In-loop Inv-loop μ-loop
+  here = c .before .before
+
+  read-is : keyOf (c .read-key .result) ≡ unless 5 (badKey (S here) (i here)) (S here .key (i here))
   unfolding keyRead
   read-is =
-      let h = start .pre in
+      let z = start here .pre .sizes in
       c .read-key .ensures
-      ∙ (λ j. keyRead (h .sizes j .materials) (h .sizes j .limits) (turn .floor-is j) (c .before .size-at .ensures .is j))
-      ∙ (λ j. unless 5 (key-test S i j) (S .key i))
+      ∙ (λ j. keyRead (z j .materials) (z j .limits) (turn here .floor-is j) (c .before .size-at .ensures .is j))
+      ∙ (λ j. unless 5 (key-test (S here) (i here) j) (S here .key (i here)))
 
 returns : tie.Need-returns Inv-loop μ-loop
 unfolding refusalOf numbered numberOf keyRefusal keyOf
 returns c =
-    let a = c .before .before .before in
-    let bad = refused-says 5 5 _ _ (sym (read-is a) ∙ ap keyOf (c .before .enum-told .given .1)) in
+    let told = c .before in
+    let read = told .before .before in
+    let a = here read in
+    let bad = refused-says 5 5 _ _ (sym (read-is read) ∙ ap keyOf (told .enum-told .given .1)) in
     ap refusalOf (c .refused .ensures)
     ∙ sym (scan-found 5 (badKey (S a)) (S a .entries) (omega (arith, entries-is (start a .pre))) (turn a .keys) bad)
 
--- the key is good
-good : (c : tie.After-known-told Inv-loop μ-loop) → let a = c .before .before .before in (badKey (S a) (i a) ≡ false) × (S a .key (i a) ≡ c .before .read .given .0 .0)
-unfolding keyOf
-good c = gives-says 5 _ _ _ (sym (read-is (c .before .before .before)) ∙ ap keyOf (c .before .read .given .1))
+-- ---- the key is good
+module _ (c : tie.After-known-told Inv-loop μ-loop) where
+  abbrev read : tie.After-read-key Inv-loop μ-loop
+  read = c .before .before .before
+
+  abbrev key : ℕ
+  key = c .before .read .given .0 .0
+
+  good : (badKey (S (here read)) (i (here read)) ≡ false) × (S (here read) .key (i (here read)) ≡ key)
+  unfolding keyOf
+  good = gives-says 5 _ _ _ (sym (read-is read) ∙ ap keyOf (c .before .read .given .1))
 
 add-floor : tie.Need-add-floor Inv-loop μ-loop
 add-floor c =
-    let size = c .before .before .before .before .size-at .ensures in
+    let size = read c .before .size-at .ensures in
     omega (arith, good c .1, size .is, size .small)
 
 loop-again : tie.Need-loop-again Inv-loop μ-loop
 loop-again c =
-    let a = c .before .before .before in
+    let a = here (read c) in
     record {
       within = omega arith;
       keys = scan-more 5 (badKey (S a)) (turn a .keys) (good c .0);
@@ -86,9 +100,10 @@ loop-again c =
 returns-2 : tie.Need-returns-2 Inv-loop μ-loop
 unfolding refusalOf keyRefusal
 returns-2 c =
-    let s = c .before .before .before in
-    let all : c .before .loop .i ≡ sheetOf (s .args .s .now) .entries = omega (arith, entries-is (s .pre)) in
-    sym (first-end _ all (c .before .loop .inv .keys))
+    let ended = c .before in
+    let start = ended .before .before in
+    let all : ended .loop .i ≡ sheetOf (start .args .s .now) .entries = omega (arith, entries-is (start .pre)) in
+    sym (first-end _ all (ended .loop .inv .keys))
 
 pub check-keys-spec : {M : Type 1} → statement M
 check-keys-spec =

@@ -23,7 +23,7 @@ use Rattle.sheet_entries.specs.Store.{Storable, storeIf}
 use Rattle.rules.specs.declared.Verdict.{Verdict}
 use Rattle.sheet_checks.specs.Keys.{figure-there}
 use Rattle.sheet_store.specs.Values.{Stored, storedBy, valueRefusal, arrayAfter}
-use Rattle.sheet_header.specs.Header.{entries-is, in-range, sheet-in-range}
+use Rattle.sheet_header.specs.Header.{Headed, entries-is, in-range, sheet-in-range}
 use Rattle.sheet_store.proofs.Stored.{value-test, entry-good, entry-fits, entry-stored}
 use Rattle.sheet_store.proofs.store_entries.Statement.{statement}
 use Rattle.sheet_store.proofs.store_entries.Tie as tie
@@ -33,7 +33,9 @@ record Turn (S : Sheet) (e : ℕ) (cost least most coefficient rhs : List ℤ) (
   values : scan 6 (badValue S) i ≡ none
   arrays : Stored S i cost least most coefficient rhs
 
-counted : {S : Sheet} {i k : ℕ} {cost least most coefficient rhs : List ℤ} → i ≡ k → Stored S i cost least most coefficient rhs → Stored S k cost least most coefficient rhs
+-- the same arrays, with the count of entries told another way
+counted : {S : Sheet} {i k : ℕ} {cost least most coefficient rhs : List ℤ}
+    → i ≡ k → Stored S i cost least most coefficient rhs → Stored S k cost least most coefficient rhs
 counted e h = rw e at h
 
 abbrev Inv-loop : tie.InvT-loop
@@ -46,104 +48,126 @@ abbrev μ-loop : tie.MeasureT-loop
 loop-holds : tie.Need-loop-holds Inv-loop μ-loop
 loop-holds c = record { within = omega arith; values = first-start _; arrays = c .before .pre .empty }
 
-read-entry-requires : tie.Need-read-entry-requires Inv-loop μ-loop
-read-entry-requires c κs = record { few = in-range (c .before .before .before .before .before .pre .keyed .headed) .few }
-
--- what was read is entry i, whose key stands for a figure
-module _ (c : tie.After-read-entry Inv-loop μ-loop) where
+-- ---- a turn: entry i, whose key stands for a figure
+module _ (c : tie.In-loop Inv-loop μ-loop) where
   abbrev start : tie.Start Inv-loop μ-loop
-  start = c .before .before .before .before .before .before
+  start = c .before .before .before
+
+  abbrev header : Headed (start .args .s .now) (start .args .sizes)
+  header = start .pre .keyed .headed
 
   abbrev S : Sheet
   S = sheetOf (start .args .s .now)
 
-  abbrev turn : tie.At-loop Inv-loop μ-loop
-  turn = c .before .before .before .before
-
   abbrev i : ℕ
-  i = turn .loop .i
+  i = c .before .loop .i
 
   inside : i < S .entries
-  inside = omega (arith, entries-is (start .pre .keyed .headed))
+  inside = omega (arith, entries-is header)
 
   there : noFigureAt (S .materials) (S .limits) (rowOf (S .key i)) (columnOf (S .key i)) ≡ false
   there = figure-there (start .pre .keyed) i inside
 
-  read-is : entryOf (c .read-entry .result) ≡ entryRead (S .materials) (S .limits) (S .key i) (S .value i)
+  sizes : SizesInRange (S .materials) (S .limits) (S .entries)
+  sizes = sheet-in-range header
+
+read-entry-requires : tie.Need-read-entry-requires Inv-loop μ-loop
+read-entry-requires c κs = record { few = in-range (header (c .before .before)) .few }
+
+-- ---- what was read is that entry
+module _ (c : tie.After-read-entry Inv-loop μ-loop) where
+  abbrev here : tie.In-loop Inv-loop μ-loop
+  here = c .before .before .before
+
+  read-is : entryOf (c .read-entry .result) ≡ entryRead (S here .materials) (S here .limits) (S here .key (i here)) (S here .value (i here))
   read-is =
-      let h = start .pre .keyed .headed in
-      let value = c .before .signed-32 .result in
-      let fits : SFits w32 value = search needs in
-      let same : toZ w32 (ofZ w32 value) ≡ S .value i
-      = toZ-ofZ fits ∙ c .before .signed-32 .ensures ∙ (λ j. signedAt 4 (start .args .s .now) (12 + 2 * entries-is h j + 4 * i)) in
-      c .read-entry .ensures ∙ (λ j. entryRead (h .sizes j .materials) (h .sizes j .limits) (c .before .before .size-at .ensures .is j) (same j))
+      let z = header here .sizes in
+      let number = c .before .signed-32 in
+      let fits : SFits w32 (number .result) = search needs in
+      let same : toZ w32 (ofZ w32 (number .result)) ≡ S here .value (i here)
+      = toZ-ofZ fits ∙ number .ensures ∙ (λ j. signedAt 4 (start here .args .s .now) (12 + 2 * z j .entries + 4 * i here)) in
+      c .read-entry .ensures
+      ∙ (λ j. entryRead (z j .materials) (z j .limits) (c .before .before .size-at .ensures .is j) (same j))
 
 returns : tie.Need-returns Inv-loop μ-loop
 unfolding refusalOf numbered numberOf valueRefusal storedBy entryOf entryRead
 returns c =
-    let entry = c .before .before .before in
-    let bad = sym (value-test (S entry) (i entry) (there entry)) ∙ refused-says 6 6 _ _ (sym (read-is entry) ∙ ap entryOf (c .before .enum-told .given .1)) in (
-      ap refusalOf (c .refused .ensures) ∙ sym (scan-found 6 (badValue (S entry)) (S entry .entries) (inside entry) (turn entry .loop .inv .values) bad),
-      counted (sym (ap (λ (v : Verdict). storedBy v (start entry .args .sizes .entries)) (c .refused .ensures))) (turn entry .loop .inv .arrays),
+    let told = c .before in
+    let entry = told .before .before in
+    let a = here entry in
+    let turn = a .before .loop .inv in
+    let said = refused-says 6 6 _ _ (sym (read-is entry) ∙ ap entryOf (told .enum-told .given .1)) in
+    let bad = sym (value-test (S a) (i a) (there a)) ∙ said in (
+      ap refusalOf (c .refused .ensures) ∙ sym (scan-found 6 (badValue (S a)) (S a .entries) (inside a) (turn .values) bad),
+      counted (sym (ap (λ (v : Verdict). storedBy v (start a .args .sizes .entries)) (c .refused .ensures))) (turn .arrays),
     )
 
--- the entry is good, and goes to its place
+-- ---- the entry is good, and goes to its place
 module _ (c : tie.After-known-told Inv-loop μ-loop) where
   abbrev entry : tie.After-read-entry Inv-loop μ-loop
   entry = c .before .before .before
 
-  abbrev placed : Placed
-  placed = record { kind = c .before .entry .given .0 .0; place = c .before .entry .given .0 .1 .0; value = c .before .entry .given .0 .1 .1 .0 }
+  abbrev a : tie.In-loop Inv-loop μ-loop
+  a = here entry
 
-  read : entryRead (S entry .materials) (S entry .limits) (S entry .key (i entry)) (S entry .value (i entry)) ≡ gives placed
+  abbrev placed : Placed
+  placed =
+      let figure = c .before .entry .given .0 in
+      record { kind = figure .0; place = figure .1 .0; value = figure .1 .1 .0 }
+
+  read : entryRead (S a .materials) (S a .limits) (S a .key (i a)) (S a .value (i a)) ≡ gives placed
   unfolding entryOf
   read = sym (read-is entry) ∙ ap entryOf (c .before .entry .given .1)
 
   value-kept : toZ w32 (ofZ w32 (placed .value)) ≡ placed .value
   value-kept = let fits : SFits w32 (placed .value) = search needs in toZ-ofZ fits
 
-  sizes : SizesInRange (S entry .materials) (S entry .limits) (S entry .entries)
-  sizes = sheet-in-range (start entry .pre .keyed .headed)
-
-  good : badValue (S entry) (i entry) ≡ false
-  good = entry-good (S entry) (i entry) sizes (there entry) read
+  good : badValue (S a) (i a) ≡ false
+  good = entry-good (S a) (i a) (sizes a) (there a) read
 
   fits : Storable (placed .kind) (placed .place) (placed .value)
-  fits = entry-fits (S entry) (i entry) sizes (there entry) read
+  fits = entry-fits (S a) (i a) (sizes a) (there a) read
 
-  after : (mine : Kind) {array : List ℤ} → array ≡ arrayAfter (S entry) mine (i entry)
-      → storeIf mine (placed .kind) (placed .place) (toZ w32 (ofZ w32 (placed .value))) array ≡ arrayAfter (S entry) mine (i entry + 1)
+  after : (mine : Kind) {array : List ℤ} → array ≡ arrayAfter (S a) mine (i a)
+      → storeIf mine (placed .kind) (placed .place) (toZ w32 (ofZ w32 (placed .value))) array ≡ arrayAfter (S a) mine (i a + 1)
   after mine {array} e =
       (λ j. storeIf mine (placed .kind) (placed .place) (value-kept j) array)
-      ∙ entry-stored (S entry) (i entry) sizes (there entry) read mine e
+      ∙ entry-stored (S a) (i a) (sizes a) (there a) read mine e
+
+-- it was told before the five arrays were lent
+abbrev told-before : tie.After-store-arg5 Inv-loop μ-loop → tie.After-known-told Inv-loop μ-loop
+told-before c = c .before .before .before .before .before
 
 store-requires : tie.Need-store-requires Inv-loop μ-loop
-store-requires c κs = let told = c .before .before .before .before .before in rw (value-kept told) (fits told)
+store-requires c κs = let told = told-before c in rw (value-kept told) (fits told)
 
 loop-again : tie.Need-loop-again Inv-loop μ-loop
 loop-again c =
-    let told = c .before .before .before .before .before .before in
-    let t = turn (entry told) .loop .inv in
+    let told = told-before (c .before) in
+    let turn = a told .before .loop .inv in
     let (cost, (least, (most, (coefficient, rhs)))) = c .store .ensures in
     record {
       within = omega arith;
-      values = scan-more 6 (badValue (S (entry told))) (t .values) (good told);
+      values = scan-more 6 (badValue (S (a told))) (turn .values) (good told);
       arrays = record {
-        costs = cost ∙ after told Cost (t .arrays .costs);
-        leasts = least ∙ after told Least (t .arrays .leasts);
-        mosts = most ∙ after told Most (t .arrays .mosts);
-        coefficients = coefficient ∙ after told Coefficient (t .arrays .coefficients);
-        right-hand-sides = rhs ∙ after told Rhs (t .arrays .right-hand-sides);
+        costs = cost ∙ after told Cost (turn .arrays .costs);
+        leasts = least ∙ after told Least (turn .arrays .leasts);
+        mosts = most ∙ after told Most (turn .arrays .mosts);
+        coefficients = coefficient ∙ after told Coefficient (turn .arrays .coefficients);
+        right-hand-sides = rhs ∙ after told Rhs (turn .arrays .right-hand-sides);
       };
     }
 
 returns-2 : tie.Need-returns-2 Inv-loop μ-loop
 unfolding refusalOf valueRefusal storedBy
 returns-2 c =
-    let l = c .before .loop in
-    let s = c .before .before .before in
-    let all : l .i ≡ s .args .sizes .entries = omega arith in
-    (sym (first-end _ (all ∙ entries-is (s .pre .keyed .headed)) (l .inv .values)), counted all (l .inv .arrays))
+    let ended = c .before in
+    let start = ended .before .before in
+    let all : ended .loop .i ≡ start .args .sizes .entries = omega arith in
+    (
+      sym (first-end _ (all ∙ entries-is (start .pre .keyed .headed)) (ended .loop .inv .values)),
+      counted all (ended .loop .inv .arrays),
+    )
 
 pub store-entries-spec : {M : Type 1} → statement M
 store-entries-spec =
