@@ -6,13 +6,13 @@ ghost use Rattle.sheet_checks.specs.Keys.{Keyed};
 ghost use Rattle.sheet_read.specs.Reading.{withoutFigures, ReadsAs, figuresRefusal, Reads};
 use rules::Cause;
 use rules::Verdict;
+use sheet_checks::check_bounds;
+use sheet_checks::check_keys;
 use sheet_figures::Figures;
 use sheet_header::Sizes;
 use sheet_header::check_header;
 use sheet_header::refused;
 use sheet_header::sizes_of;
-use sheet_checks::check_bounds;
-use sheet_checks::check_keys;
 use sheet_store::store_entries;
 
 // What reading a sheet gives. Where it is refused, every figure is 0.

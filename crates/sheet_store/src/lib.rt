@@ -27,8 +27,8 @@ pub fn store_entries(
     ensures { λ r. ⌜ refusalOf r ≡ valueRefusal (sheetOf (now (s .entry))) ⌝ }
     ensures { λ r. ⌜
         Stored (sheetOf (now (s .entry))) (storedBy r (sizes .entries))
-            (now (cost .exit)) (now (least .exit)) (now (most .exit)) (now (coefficient .exit)) (now (rhs .exit))
-    ⌝ }
+        (now (cost .exit)) (now (least .exit)) (now (most .exit)) (now (coefficient .exit)) (now (rhs .exit))
+        ⌝ }
 {
     let n = sizes.materials;
     let m = sizes.limits;

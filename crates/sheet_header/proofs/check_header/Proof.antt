@@ -1,91 +1,76 @@
 -- Each test that fails ends in its own link of the chain; e, in its range, keeps the length small.
 use mathlib.Core.Path.{_≡_, sym, ap, _∙_}
-use mathlib.Core.Bool.{Bool, true, false}
-use mathlib.Core.Option.{none, some}
+use mathlib.Core.Bool.{true, not}
 use Prim.Native.Nat.{ℕ}
 use native.Mathlib.Omega.{arith}
 use borrow.Author.Needs.{needs}
-use borrow.Author.Tests.{eq-eqb, ne-eqb, not-true, not-false}
+use borrow.Author.Tests.{eq-eqb, ne-eqb, not-false}
+use lib.Dec.{eqb}
 use Rattle.rules.specs.Sheet.{sheetLength}
 use Rattle.rules.specs.Ranges.{dimensionsInRange, parametersInRange}
 use Rattle.rules.specs.Refusals.{numberOf, numbered, refusalOf, refuse, _otherwise_}
 use Rattle.proof_laws.specs.Sizes.{dimensions}
+use Rattle.proof_laws.specs.FirstPlace.{refuse-yes, refuse-no, given, handed-on}
 use Rattle.sheet_header.specs.declared.Sizes.{Sizes}
 use Rattle.sheet_header.specs.Header.{headerRefusal}
 use Rattle.sheet_header.proofs.check_header.Statement.{statement}
 use Rattle.sheet_header.proofs.check_header.Tie as tie
 
--- ---- refusals 2 to 4, link by link
-module _ (bytes : ℕ) (z : Sizes) where
-  abbrev good-dimensions : Bool
-  good-dimensions = dimensionsInRange (z .materials) (z .limits) (z .entries)
-
-  abbrev good-parameters : Bool
-  good-parameters = parametersInRange (z .numerator) (z .scale) (z .steps)
-
-  abbrev length-due : ℕ
-  length-due = sheetLength (z .entries)
-
-  refused-2 : good-dimensions ≡ false → headerRefusal bytes z ≡ some (record { number = 2; place = 0 })
-  unfolding headerRefusal refuse _otherwise_
-  refused-2 d = rw d
-
-  module _ (d : good-dimensions ≡ true) where
-    refused-3 : (bytes ≡ length-due → ⊥) → headerRefusal bytes z ≡ some (record { number = 3; place = 0 })
-    unfolding headerRefusal refuse _otherwise_
-    refused-3 l = rw (d, ne-eqb bytes length-due l)
-
-    module _ (l : bytes ≡ length-due) where
-      refused-4 : good-parameters ≡ false → headerRefusal bytes z ≡ some (record { number = 4; place = 0 })
-      unfolding headerRefusal refuse _otherwise_
-      refused-4 p = rw (d, eq-eqb bytes length-due l, p)
-
-      passed : good-parameters ≡ true → headerRefusal bytes z ≡ none
-      unfolding headerRefusal refuse _otherwise_
-      passed p = rw (d, eq-eqb bytes length-due l, p)
-
--- ---- what the tests say
-out-2 : (c : tie.Then1) → let z = c .before .before .args .sizes in dimensionsInRange (z .materials) (z .limits) (z .entries) ≡ false
-out-2 c = sym (c .before .dimensions-in-range .ensures) ∙ not-true _ (c .if1 .taken)
-
-in-2 : (c : tie.Else1) → let z = c .before .before .args .sizes in dimensionsInRange (z .materials) (z .limits) (z .entries) ≡ true
-in-2 c = sym (c .before .dimensions-in-range .ensures) ∙ not-false _ (c .if1 .left)
-
 returns : tie.Need-returns
-unfolding refusalOf numbered numberOf
+unfolding refusalOf numbered numberOf headerRefusal
 returns c =
-    let a = c .before .before .before .args in
-    ap refusalOf (c .refused .ensures) ∙ sym (refused-2 (a .bytes) (a .sizes) (out-2 (c .before)))
+    let taken = c .before in
+    let out = ap not (sym (taken .before .dimensions-in-range .ensures)) ∙ taken .if1 .taken in
+    ap refusalOf (c .refused .ensures) ∙ sym (given _ (refuse-yes 2 0 out))
+
+-- ---- n, m and e lie in their ranges
+module _ (c : tie.Else1) where
+  abbrev bytes : ℕ
+  bytes = c .before .before .args .bytes
+
+  abbrev sizes : Sizes
+  sizes = c .before .before .args .sizes
+
+  dimensions-in : dimensionsInRange (sizes .materials) (sizes .limits) (sizes .entries) ≡ true
+  dimensions-in = sym (c .before .dimensions-in-range .ensures) ∙ not-false _ (c .if1 .left)
+
+  after-dimensions : headerRefusal bytes sizes
+      ≡ refuse 3 0 (not (eqb bytes (sheetLength (sizes .entries))))
+      otherwise refuse 4 0 (not (parametersInRange (sizes .numerator) (sizes .scale) (sizes .steps)))
+  unfolding headerRefusal
+  after-dimensions = handed-on _ (refuse-no 2 0 (ap not dimensions-in))
 
 mul-if2 : tie.Need-mul-if2
-mul-if2 c = let d = dimensions _ _ _ (in-2 c) in record { fits = omega arith }
+mul-if2 c = let d = dimensions _ _ _ (dimensions-in c) in record { fits = omega arith }
 
 add-if2 : tie.Need-add-if2
-add-if2 c = let d = dimensions _ _ _ (in-2 c) in record { fits = omega arith }
+add-if2 c = let d = dimensions _ _ _ (dimensions-in c) in record { fits = omega arith }
 
 returns-2 : tie.Need-returns-2
 unfolding refusalOf numbered numberOf
 returns-2 c =
-    let b = c .before .before in
-    let a = b .before .before .args in
-    ap refusalOf (c .refused2 .ensures) ∙ sym (refused-3 (a .bytes) (a .sizes) (in-2 b) (c .before .if2 .taken))
+    let taken = c .before in
+    let d = taken .before in
+    let out = ap not (ne-eqb (bytes d) (sheetLength (sizes d .entries)) (taken .if2 .taken)) in
+    ap refusalOf (c .refused2 .ensures) ∙ sym (after-dimensions d ∙ given _ (refuse-yes 3 0 out))
+
+-- ---- and the length fits
+after-length : (c : tie.After-parameters-in-range) → let d = c .before .before in
+    headerRefusal (bytes d) (sizes d) ≡ refuse 4 0 (not (c .parameters-in-range .result))
+after-length c =
+    let d = c .before .before in
+    let fits = ap not (eq-eqb (bytes d) (sheetLength (sizes d .entries)) (c .before .if2 .left)) in
+    after-dimensions d ∙ handed-on _ (refuse-no 3 0 fits) ∙ ap (λ b. refuse 4 0 (not b)) (sym (c .parameters-in-range .ensures))
 
 returns-3 : tie.Need-returns-3
 unfolding refusalOf numbered numberOf
 returns-3 c =
-    let p = c .before .before in
-    let b = p .before .before in
-    let a = b .before .before .args in
-    ap refusalOf (c .refused3 .ensures)
-    ∙ sym (refused-4 (a .bytes) (a .sizes) (in-2 b) (p .before .if2 .left) (sym (p .parameters-in-range .ensures) ∙ not-true _ (c .before .if3 .taken)))
+    let taken = c .before in
+    ap refusalOf (c .refused3 .ensures) ∙ sym (after-length (taken .before) ∙ refuse-yes 4 0 (taken .if3 .taken))
 
 returns-4 : tie.Need-returns-4
 unfolding refusalOf
-returns-4 c =
-    let p = c .before in
-    let b = p .before .before in
-    let a = b .before .before .args in
-    sym (passed (a .bytes) (a .sizes) (in-2 b) (p .before .if2 .left) (sym (p .parameters-in-range .ensures) ∙ not-false _ (c .if3 .left)))
+returns-4 c = sym (after-length (c .before) ∙ refuse-no 4 0 (c .if3 .left))
 
 pub check-header-spec : {M : Type 1} → statement M
 check-header-spec =

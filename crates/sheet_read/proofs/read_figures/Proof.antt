@@ -2,6 +2,7 @@
 use mathlib.Core.Path.{_≡_, refl, sym, ap, _∙_}
 use mathlib.Core.List.{List}
 use mathlib.Core.Option.{none}
+use Prim.Native.Nat.{ℕ}
 use lib.IntN.{ℤ}
 use borrow.Author.Needs.{needs}
 use Rattle.rules.specs.declared.Kind.{Kind}
@@ -12,7 +13,7 @@ use Rattle.rules.specs.Refusals.{refusalOf}
 use Rattle.proof_laws.specs.FirstPlace.{given, handed-on}
 use Rattle.sheet_figures.specs.Figures.{figuresOf}
 use Rattle.sheet_figures.specs.Places.{roomOf}
-use Rattle.sheet_header.specs.Header.{entries-is, in-range, sheet-in-range}
+use Rattle.sheet_header.specs.Header.{Headed, entries-is, in-range, sheet-in-range}
 use Rattle.sheet_store.specs.Values.{storedBy, arrayAfter, valueRefusal, arrayIn, none-stored, all-stored}
 use Rattle.sheet_checks.specs.Bounds.{crossedRefusal}
 use Rattle.sheet_read.specs.Reading.{boundRefusal, figuresRefusal}
@@ -21,13 +22,16 @@ use Rattle.sheet_read.proofs.Outcome.{turned-back, read-whole}
 use Rattle.sheet_read.proofs.read_figures.Statement.{statement}
 use Rattle.sheet_read.proofs.read_figures.Tie as tie
 
+-- ---- the start, before the five arrays are made
+abbrev start-of : tie.After-b → tie.Start
+start-of c = c .before .before .before .before .before .before
+
 store-entries-requires : tie.Need-store-entries-requires
 unfolding roomOf
 store-entries-requires c κs =
-    let s = c .before .before .before .before .before .before in
-    let S = sheetOf (s .args .s .now) in
+    let S = sheetOf (start-of c .args .s .now) in
     record {
-      keyed = s .pre;
+      keyed = start-of c .pre;
       empty = record {
         costs = sym (none-stored S Cost);
         leasts = sym (none-stored S Least);
@@ -37,21 +41,27 @@ store-entries-requires c κs =
       };
     }
 
+-- ---- the entries are stored, or one is refused
 module _ (c : tie.After-store-entries) where
   abbrev start : tie.Start
-  start = c .before .before .before .before .before .before .before
+  start = start-of (c .before)
 
   abbrev S : Sheet
   S = sheetOf (start .args .s .now)
 
+  abbrev header : Headed (start .args .s .now) (start .args .sizes)
+  header = start .pre .headed
+
 returns : tie.Need-returns
 unfolding refusalOf figuresRefusal
 returns c =
-    let stored = c .before .before .before in
-    let told = ap refusalOf (c .before .enum-told2 .given .1) in
-    turned-back (S stored) (stored .store-entries .result) (c .without-figures .ensures) told (given _ (sym (stored .store-entries .ensures .0) ∙ told))
+    let refused = c .before in
+    let stored = refused .before .before in
+    let told = ap refusalOf (refused .enum-told2 .given .1) in
+    turned-back (S stored) (stored .store-entries .result) (c .without-figures .ensures) told
+    (given _ (sym (stored .store-entries .ensures .0) ∙ told))
 
--- the values are good: the arrays hold all entries
+-- ---- the values are good: the arrays hold all entries
 module _ (c : tie.After-enum-told) where
   abbrev stored : tie.After-store-entries
   stored = c .before .before
@@ -60,19 +70,26 @@ module _ (c : tie.After-enum-told) where
   unfolding refusalOf
   values = sym (stored .store-entries .ensures .0) ∙ ap refusalOf (c .enum-told .given .1)
 
-  all : storedBy (stored .store-entries .result) (start stored .args .sizes .entries) ≡ S stored .entries
+  abbrev count : ℕ
+  count = storedBy (stored .store-entries .result) (start stored .args .sizes .entries)
+
+  all : count ≡ S stored .entries
   unfolding storedBy
-  all = ap (λ (v : Verdict). storedBy v (start stored .args .sizes .entries)) (c .enum-told .given .1) ∙ entries-is (start stored .pre .headed)
+  all =
+      ap (λ (v : Verdict). storedBy v (start stored .args .sizes .entries)) (c .enum-told .given .1)
+      ∙ entries-is (header stored)
 
   -- the array of each kind is that of the figures
-  filled : (kind : Kind) {array : List ℤ} → array ≡ arrayAfter (S stored) kind (storedBy (stored .store-entries .result) (start stored .args .sizes .entries))
+  filled : (kind : Kind) {array : List ℤ} → array ≡ arrayAfter (S stored) kind count
       → array ≡ arrayIn (figuresOf (problem (S stored)) (S stored .steps)) kind
   filled kind e = e ∙ ap (arrayAfter (S stored) kind) all ∙ all-stored (S stored) kind
 
 check-bounds-requires : tie.Need-check-bounds-requires
-check-bounds-requires c κs = record { narrow = in-range (start (stored (c .before .before)) .pre .headed) .narrow }
+check-bounds-requires c κs =
+    let good = c .before .before in
+    record { narrow = in-range (header (stored good)) .narrow }
 
--- refusals 6 and 7, in the definition's terms
+-- ---- refusals 6 and 7, in the definition's terms
 module _ (c : tie.After-check-bounds) where
   abbrev good : tie.After-enum-told
   good = c .before .before .before
@@ -80,7 +97,7 @@ module _ (c : tie.After-check-bounds) where
   bounds : refusalOf (c .check-bounds .result) ≡ figuresRefusal (S (stored good))
   unfolding figuresRefusal figuresOf problem
   bounds =
-      let h = start (stored good) .pre .headed in
+      let h = header (stored good) in
       let arrays = stored good .store-entries .ensures .1 in
       c .check-bounds .ensures
       ∙ (λ j. crossedRefusal (h .sizes j .materials) (filled good Least (arrays .leasts) j) (filled good Most (arrays .mosts) j))
@@ -90,29 +107,32 @@ module _ (c : tie.After-check-bounds) where
 returns-2 : tie.Need-returns-2
 unfolding refusalOf
 returns-2 c =
-    let checked = c .before .before .before in
-    let told = ap refusalOf (c .before .enum-told4 .given .1) in
-    turned-back (S (stored (good checked))) (checked .check-bounds .result) (c .without-figures2 .ensures) told (sym (bounds checked) ∙ told)
+    let refused = c .before in
+    let checked = refused .before .before in
+    let told = ap refusalOf (refused .enum-told4 .given .1) in
+    turned-back (S (stored (good checked))) (checked .check-bounds .result) (c .without-figures2 .ensures) told
+    (sym (bounds checked) ∙ told)
 
 returns-3 : tie.Need-returns-3
 unfolding refusalOf figuresOf problem
 returns-3 c =
     let checked = c .before .before in
-    let h = start (stored (good checked)) .pre .headed in
-    let arrays = stored (good checked) .store-entries .ensures .1 in
-    read-whole (S (stored (good checked))) refl (sym (bounds checked) ∙ ap refusalOf (c .enum-told3 .given .1))
+    let g = good checked in
+    let z = header (stored g) .sizes in
+    let arrays = stored g .store-entries .ensures .1 in
+    read-whole (S (stored g)) refl (sym (bounds checked) ∙ ap refusalOf (c .enum-told3 .given .1))
     (λ j.
     record {
-      materials = h .sizes j .materials;
-      limits = h .sizes j .limits;
-      numerator = h .sizes j .numerator;
-      scale = h .sizes j .scale;
-      steps = h .sizes j .steps;
-      cost = filled (good checked) Cost (arrays .costs) j;
-      least = filled (good checked) Least (arrays .leasts) j;
-      most = filled (good checked) Most (arrays .mosts) j;
-      coefficient = filled (good checked) Coefficient (arrays .coefficients) j;
-      rhs = filled (good checked) Rhs (arrays .right-hand-sides) j;
+      materials = z j .materials;
+      limits = z j .limits;
+      numerator = z j .numerator;
+      scale = z j .scale;
+      steps = z j .steps;
+      cost = filled g Cost (arrays .costs) j;
+      least = filled g Least (arrays .leasts) j;
+      most = filled g Most (arrays .mosts) j;
+      coefficient = filled g Coefficient (arrays .coefficients) j;
+      rhs = filled g Rhs (arrays .right-hand-sides) j;
     })
 
 pub read-figures-spec : {M : Type 1} → statement M

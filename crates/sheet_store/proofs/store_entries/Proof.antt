@@ -163,8 +163,7 @@ unfolding refusalOf valueRefusal storedBy
 returns-2 c =
     let ended = c .before in
     let start = ended .before .before in
-    let all : ended .loop .i ≡ start .args .sizes .entries = omega arith in
-    (
+    let all : ended .loop .i ≡ start .args .sizes .entries = omega arith in (
       sym (first-end _ (all ∙ entries-is (start .pre .keyed .headed)) (ended .loop .inv .values)),
       counted all (ended .loop .inv .arrays),
     )
