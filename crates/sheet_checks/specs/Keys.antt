@@ -1,6 +1,6 @@
 -- The pass over the keys: refusal 5, and what a sheet that passed it has.
 use mathlib.Core.Path.{_≡_}
-use mathlib.Core.Bool.{false}
+use mathlib.Core.Bool.{Bool, false}
 use mathlib.Core.List.{List}
 use mathlib.Core.Option.{Option, none}
 use Prim.Native.Nat.{ℕ, _<_}
@@ -20,9 +20,12 @@ pub record Keyed (s : List ℕ) (z : Sizes) : Type 0 where
   pub headed : Headed s z
   pub keys : keyRefusal (sheetOf s) ≡ none
 
--- each of its keys stands for a figure
-pub figure-there : {s : List ℕ} {z : Sizes} → Keyed s z → let S = sheetOf s in
-    (i : ℕ) → i < S .entries → noFigureAt (S .materials) (S .limits) (rowOf (S .key i)) (columnOf (S .key i)) ≡ false
+-- does the key of entry i stand for no figure?
+abbrev pub noFigureFor : Sheet → ℕ → Bool
+noFigureFor S i = noFigureAt (S .materials) (S .limits) (rowOf (S .key i)) (columnOf (S .key i))
+
+-- each of its keys stands for one
+pub figure-there : {s : List ℕ} {z : Sizes} → Keyed s z → (i : ℕ) → i < sheetOf s .entries → noFigureFor (sheetOf s) i ≡ false
 unfolding keyRefusal
 figure-there {s} h i l =
     let S = sheetOf s in

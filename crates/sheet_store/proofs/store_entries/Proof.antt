@@ -13,18 +13,18 @@ use borrow.Author.Needs.{needs}
 use Rattle.rules.specs.declared.Kind.{Kind}
 use Rattle.rules.specs.declared.Kind.the-variants.{Cost, Least, Most, Coefficient, Rhs}
 use Rattle.rules.specs.Bytes.{signedAt}
-use Rattle.rules.specs.Sheet.{Sheet, sheetOf, rowOf, columnOf}
-use Rattle.rules.specs.Refusals.{numberOf, numbered, refusalOf, noFigureAt, badValue}
+use Rattle.rules.specs.Sheet.{Sheet, sheetOf}
+use Rattle.rules.specs.Refusals.{numberOf, numbered, refusalOf, badValue}
 use Rattle.proof_laws.specs.Sizes.{SizesInRange}
 use Rattle.proof_laws.specs.FirstPlace.{first-start, first-end, scan, scan-more, scan-found}
 use Rattle.sheet_kinds.specs.Read.{gives, refused-says}
 use Rattle.sheet_entries.specs.EntryRead.{Placed, entryOf, entryRead}
 use Rattle.sheet_entries.specs.Store.{Storable, storeIf}
 use Rattle.rules.specs.declared.Verdict.{Verdict}
-use Rattle.sheet_checks.specs.Keys.{figure-there}
+use Rattle.sheet_checks.specs.Keys.{noFigureFor, figure-there}
 use Rattle.sheet_store.specs.Values.{Stored, storedBy, valueRefusal, arrayAfter}
 use Rattle.sheet_header.specs.Header.{Headed, entries-is, in-range, sheet-in-range}
-use Rattle.sheet_store.proofs.Stored.{value-test, entry-good, entry-fits, entry-stored}
+use Rattle.sheet_store.proofs.Stored.{value-test, readAt, entry-good, entry-fits, entry-stored}
 use Rattle.sheet_store.proofs.store_entries.Statement.{statement}
 use Rattle.sheet_store.proofs.store_entries.Tie as tie
 
@@ -65,7 +65,7 @@ module _ (c : tie.In-loop Inv-loop μ-loop) where
   inside : i < S .entries
   inside = omega (arith, entries-is header)
 
-  there : noFigureAt (S .materials) (S .limits) (rowOf (S .key i)) (columnOf (S .key i)) ≡ false
+  there : noFigureFor S i ≡ false
   there = figure-there (start .pre .keyed) i inside
 
   sizes : SizesInRange (S .materials) (S .limits) (S .entries)
@@ -79,13 +79,14 @@ module _ (c : tie.After-read-entry Inv-loop μ-loop) where
   abbrev here : tie.In-loop Inv-loop μ-loop
   here = c .before .before .before
 
-  read-is : entryOf (c .read-entry .result) ≡ entryRead (S here .materials) (S here .limits) (S here .key (i here)) (S here .value (i here))
+  read-is : entryOf (c .read-entry .result) ≡ readAt (S here) (i here)
   read-is =
       let z = header here .sizes in
       let number = c .before .signed-32 in
       let fits : SFits w32 (number .result) = search needs in
       let same : toZ w32 (ofZ w32 (number .result)) ≡ S here .value (i here)
-      = toZ-ofZ fits ∙ number .ensures ∙ (λ j. signedAt 4 (start here .args .s .now) (12 + 2 * z j .entries + 4 * i here)) in
+      = toZ-ofZ fits ∙ number .ensures
+      ∙ (λ j. signedAt 4 (start here .args .s .now) (12 + 2 * z j .entries + 4 * i here)) in
       c .read-entry .ensures
       ∙ (λ j. entryRead (z j .materials) (z j .limits) (c .before .before .size-at .ensures .is j) (same j))
 
@@ -97,10 +98,10 @@ returns c =
     let a = here entry in
     let turn = a .before .loop .inv in
     let said = refused-says 6 6 _ _ (sym (read-is entry) ∙ ap entryOf (told .enum-told .given .1)) in
-    let bad = sym (value-test (S a) (i a) (there a)) ∙ said in (
-      ap refusalOf (c .refused .ensures) ∙ sym (scan-found 6 (badValue (S a)) (S a .entries) (inside a) (turn .values) bad),
-      counted (sym (ap (λ (v : Verdict). storedBy v (start a .args .sizes .entries)) (c .refused .ensures))) (turn .arrays),
-    )
+    let bad = sym (value-test (S a) (i a) (there a)) ∙ said in
+    let found = scan-found 6 (badValue (S a)) (S a .entries) (inside a) (turn .values) bad in
+    let all = ap (λ (v : Verdict). storedBy v (start a .args .sizes .entries)) (c .refused .ensures) in
+    (ap refusalOf (c .refused .ensures) ∙ sym found, counted (sym all) (turn .arrays))
 
 -- ---- the entry is good, and goes to its place
 module _ (c : tie.After-known-told Inv-loop μ-loop) where
@@ -115,7 +116,7 @@ module _ (c : tie.After-known-told Inv-loop μ-loop) where
       let figure = c .before .entry .given .0 in
       record { kind = figure .0; place = figure .1 .0; value = figure .1 .1 .0 }
 
-  read : entryRead (S a .materials) (S a .limits) (S a .key (i a)) (S a .value (i a)) ≡ gives placed
+  read : readAt (S a) (i a) ≡ gives placed
   unfolding entryOf
   read = sym (read-is entry) ∙ ap entryOf (c .before .entry .given .1)
 
@@ -129,7 +130,8 @@ module _ (c : tie.After-known-told Inv-loop μ-loop) where
   fits = entry-fits (S a) (i a) (sizes a) (there a) read
 
   after : (mine : Kind) {array : List ℤ} → array ≡ arrayAfter (S a) mine (i a)
-      → storeIf mine (placed .kind) (placed .place) (toZ w32 (ofZ w32 (placed .value))) array ≡ arrayAfter (S a) mine (i a + 1)
+      → storeIf mine (placed .kind) (placed .place) (toZ w32 (ofZ w32 (placed .value))) array
+      ≡ arrayAfter (S a) mine (i a + 1)
   after mine {array} e =
       (λ j. storeIf mine (placed .kind) (placed .place) (value-kept j) array)
       ∙ entry-stored (S a) (i a) (sizes a) (there a) read mine e
