@@ -25,7 +25,8 @@ abbrev pub noFigureFor : Sheet → ℕ → Bool
 noFigureFor S i = noFigureAt (S .materials) (S .limits) (rowOf (S .key i)) (columnOf (S .key i))
 
 -- each of its keys stands for one
-pub figure-there : {s : List ℕ} {z : Sizes} → Keyed s z → (i : ℕ) → i < sheetOf s .entries → noFigureFor (sheetOf s) i ≡ false
+pub figure-there : {s : List ℕ} {z : Sizes} → Keyed s z
+    → (i : ℕ) → i < sheetOf s .entries → noFigureFor (sheetOf s) i ≡ false
 unfolding keyRefusal
 figure-there {s} h i l =
     let S = sheetOf s in

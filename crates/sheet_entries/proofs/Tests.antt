@@ -52,6 +52,7 @@ module _ (n m key : ℕ) (value : ℤ) where
       unfolding entryRead unless
       out-of-range k = rw (h, nonzero value other, k)
 
-      pub in-range : inRange (rangeOf (entryKind n m key value)) value ≡ true → entryRead n m key value ≡ gives (entryPlaced n m key value)
+      pub in-range : inRange (rangeOf (entryKind n m key value)) value ≡ true
+          → entryRead n m key value ≡ gives (entryPlaced n m key value)
       unfolding entryRead unless
       in-range k = rw (h, nonzero value other, k)

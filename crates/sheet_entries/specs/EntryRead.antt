@@ -27,9 +27,11 @@ module _ (n m key : ℕ) (value : ℤ) where
   abbrev pub entryKind : Kind
   entryKind = kindAt n (rowOf key) (columnOf key)
 
-  -- is an entry bad: value 0 or outside its range? A key that has no figure, which refusal 5 turns back before, is no entry either.
+  -- is an entry bad: value 0 or outside its range? A key that has no figure, which refusal 5 turns back before,
+  -- is no entry either.
   abbrev pub entryBad : Bool
-  entryBad = noFigureAt n m (rowOf key) (columnOf key) || (eqb (natAbs value) 0 || not (inRange (rangeOf entryKind) value))
+  entryBad =
+      noFigureAt n m (rowOf key) (columnOf key) || (eqb (natAbs value) 0 || not (inRange (rangeOf entryKind) value))
 
   abbrev pub entryPlaced : Placed
   entryPlaced = record { kind = entryKind; place = placeOf entryKind (rowOf key) (columnOf key); value = value }

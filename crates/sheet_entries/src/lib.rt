@@ -23,7 +23,8 @@ pub enum EntryValue {
     Bad,
 }
 
-// A key, with n materials and m limits. `floor` is the least key that it may be: one more than the key before, if there is one, and else 0.
+// A key, with n materials and m limits. `floor` is the least key that it may be:
+// one more than the key before, if there is one, and else 0.
 pub fn read_key(n: usize, m: usize, floor: usize, key: usize) -> Key
     requires { ⌜ FewLimits m ⌝ }
     ensures { λ r. ⌜ keyOf r ≡ keyRead n m floor key ⌝ }

@@ -40,7 +40,8 @@ problemIn n m p D c l u a b = record {
 -- the problem whose figures these are
 abbrev pub problemOf : Figures → Problem
 problemOf F =
-    problemIn (F .materials) (F .limits) (F .numerator) (F .scale) (F .cost) (F .least) (F .most) (F .coefficient) (F .rhs)
+    problemIn (F .materials) (F .limits) (F .numerator) (F .scale)
+    (F .cost) (F .least) (F .most) (F .coefficient) (F .rhs)
 
 -- no figures: every size and every place is 0
 unfoldable pub noFigures : Figures

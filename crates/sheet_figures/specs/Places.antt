@@ -1,4 +1,5 @@
--- The map between a kind of figure with its row and column in a sheet and a place in the array of that kind, in both directions.
+-- The map between a kind of figure with its row and column in a sheet and a place in the array of that kind,
+-- in both directions.
 use mathlib.Core.Path.{_≡_, refl, sym, ap, _∙_}
 use mathlib.Core.Bool.{Bool, true, false, cond, _&&_}
 use Prim.Native.Nat.{ℕ, zero, suc, _+_, _-_, _*_, _/_, _%_, _<_, _≤_}
@@ -105,7 +106,8 @@ pub record There (n m row column : ℕ) (kind : Kind) : Type 0 where
   pub same-row : rowAt kind (placeOf kind row column) ≡ row
   pub same-column : columnAt n kind (placeOf kind row column) ≡ column
 
-pub there : (n m row column : ℕ) → n ≤ 32 → m ≤ 16 → FigureAt n m row column → There n m row column (kindAt n row column)
+pub there : (n m row column : ℕ) → n ≤ 32 → m ≤ 16 → FigureAt n m row column
+    → There n m row column (kindAt n row column)
 unfolding hasFigure rowAt columnAt kindAt placeOf roomOf
 there n m zero column narrow few h =
     let l = h .material (omega arith) in
@@ -149,7 +151,8 @@ from-first n (suc (suc (suc i))) column = by (eqb column n)
     by true = omega arith
     by false = omega arith
 
-pub placeable : (n m row column : ℕ) {kind : Kind} → m ≤ 16 → column < 64 → FigureAt n m row column → kindAt n row column ≡ kind → Placeable kind row column
+pub placeable : (n m row column : ℕ) {kind : Kind} → m ≤ 16 → column < 64 → FigureAt n m row column
+    → kindAt n row column ≡ kind → Placeable kind row column
 placeable n m row column few narrow h e =
     let first = from-first n row column in
     record { from = rw (← e) first; row-small = omega arith; column-small = narrow }

@@ -60,7 +60,8 @@ arrayIn F Most = F .most
 arrayIn F Coefficient = F .coefficient
 arrayIn F Rhs = F .rhs
 
-pub all-stored : (S : Sheet) (kind : Kind) → arrayAfter S kind (S .entries) ≡ arrayIn (figuresOf (problem S) (S .steps)) kind
+pub all-stored : (S : Sheet) (kind : Kind)
+    → arrayAfter S kind (S .entries) ≡ arrayIn (figuresOf (problem S) (S .steps)) kind
 unfolding arrayAfter hasFigure rowAt columnAt roomOf figuresOf problem figure row rows
 all-stored S Cost = refl
 all-stored S Least = refl

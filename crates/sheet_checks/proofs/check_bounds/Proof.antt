@@ -44,7 +44,8 @@ module _ (c : tie.After-if13 Inv-loop μ-loop) where
   before : scan 7 (crossedAt least most) j ≡ none
   before = turn .loop .inv .1
 
-  test-is : (b : Bool) → ltZ (toZ w16 (ofZ w16 (at most j))) (toZ w16 (ofZ w16 (at least j))) ≡ b → crossedAt least most j ≡ b
+  test-is : (b : Bool) → ltZ (toZ w16 (ofZ w16 (at most j))) (toZ w16 (ofZ w16 (at least j))) ≡ b
+      → crossedAt least most j ≡ b
   test-is b h =
       let least-fits : SFits w16 (at least j) = search needs in
       let most-fits : SFits w16 (at most j) = search needs in

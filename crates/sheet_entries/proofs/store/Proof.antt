@@ -116,7 +116,9 @@ returns-4 c =
 
 returns-5 : tie.Need-returns-5
 unfolding storeIf indexOf widthOf
-returns-5 c = simp (c .enum-told5 .given .1, toZ-ofZ (c .before .before .fits .value)) (refl, (refl, (refl, (refl, refl))))
+returns-5 c =
+    let a = c .before .before in
+    simp (c .enum-told5 .given .1, toZ-ofZ (a .fits .value)) (refl, (refl, (refl, (refl, refl))))
 
 pub store-spec : {M : Type 1} → statement M
 store-spec =

@@ -60,7 +60,8 @@ after-length : (c : tie.After-parameters-in-range) → let d = c .before .before
 after-length c =
     let d = c .before .before in
     let fits = ap not (eq-eqb (bytes d) (sheetLength (sizes d .entries)) (c .before .if2 .left)) in
-    after-dimensions d ∙ handed-on _ (refuse-no 3 0 fits) ∙ ap (λ b. refuse 4 0 (not b)) (sym (c .parameters-in-range .ensures))
+    after-dimensions d ∙ handed-on _ (refuse-no 3 0 fits)
+    ∙ ap (λ b. refuse 4 0 (not b)) (sym (c .parameters-in-range .ensures))
 
 returns-3 : tie.Need-returns-3
 unfolding refusalOf numbered numberOf

@@ -18,7 +18,8 @@ few n m h =
     few-entries (omega (arith, leb-true)) (omega (arith, leb-true))
 
 -- the test that the code has passed, as the definition has it
-passed : (c : tie.Then1) → let a = c .before .before .before .args in (between 1 32 (a .n) && between 0 16 (a .m)) ≡ true
+passed : (c : tie.Then1) → let a = c .before .before .before .args in
+    (between 1 32 (a .n) && between 0 16 (a .m)) ≡ true
 passed c = rw (c .before .before .between .ensures, c .before .between2 .ensures) at (c .if1 .taken)
 
 add-result : tie.Need-add-result

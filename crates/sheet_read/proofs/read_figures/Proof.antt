@@ -99,8 +99,10 @@ module _ (c : tie.After-check-bounds) where
   bounds =
       let h = header (stored good) in
       let arrays = stored good .store-entries .ensures .1 in
+      let least = filled good Least (arrays .leasts) in
+      let most = filled good Most (arrays .mosts) in
       c .check-bounds .ensures
-      ∙ (λ j. crossedRefusal (h .sizes j .materials) (filled good Least (arrays .leasts) j) (filled good Most (arrays .mosts) j))
+      ∙ (λ j. crossedRefusal (h .sizes j .materials) (least j) (most j))
       ∙ crossed-is (S (stored good)) (sheet-in-range h .narrow)
       ∙ sym (handed-on (boundRefusal (S (stored good))) (values good))
 

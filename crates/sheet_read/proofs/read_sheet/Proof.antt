@@ -21,8 +21,9 @@ returns c =
     let refused = c .before in
     let short-one = refused .before in
     let s = short-one .before .before .args .s .now in
+    let told = ap refusalOf (refused .refused .ensures) in
     reads s
-    (turned-back (sheetOf s) (refused .refused .result) (c .without-figures .ensures) (ap refusalOf (refused .refused .ensures))
+    (turned-back (sheetOf s) (refused .refused .result) (c .without-figures .ensures) told
     (short s (short-one .if1 .taken)))
 
 -- ---- after refusals 2 to 4
