@@ -3,6 +3,7 @@ use mathlib.Core.Path.{_≡_, refl, sym, ap, _∙_}
 use mathlib.Core.List.{List}
 use mathlib.Core.Option.{none}
 use Prim.Native.Nat.{ℕ}
+use native.Mathlib.Omega.{arith}
 use lib.IntN.{ℤ}
 use borrow.Author.Needs.{needs}
 use Rattle.rules.specs.declared.Kind.{Kind}
@@ -86,8 +87,8 @@ module _ (c : tie.After-enum-told) where
 
 check-bounds-requires : tie.Need-check-bounds-requires
 check-bounds-requires c κs =
-    let good = c .before .before in
-    record { narrow = in-range (header (stored good)) .narrow }
+    let d = in-range (header (stored (c .before .before))) in
+    record { narrow = omega arith }
 
 -- ---- refusals 6 and 7, in the definition's terms
 module _ (c : tie.After-check-bounds) where
