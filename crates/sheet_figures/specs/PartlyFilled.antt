@@ -1,17 +1,17 @@
 -- Arrays with more places than figures: the places without a figure hold 0.
-use mathlib.Core.Path.{_≡_, refl, sym, ap₂, _∙_}
+use mathlib.Core.Path.{_≡_, refl, ap₂, _∙_}
 use mathlib.Core.Bool.{Bool, true, false, cond, _&&_, and-false}
 use mathlib.Core.List.{List}
 use Prim.Native.Nat.{ℕ, _+_, _*_, _/_, _%_, _≤_, _<_}
 use native.Mathlib.Nat.{lt-of-lt-of-le}
 use native.Mathlib.Omega.{arith}
-use borrow.Author.Tests.{lt-ltb, le-ltb, ltb-true, ltb-false, eqb-true, eqb-false}
-use lib.Dec.{ltb, eqb}
+use borrow.Author.Tests.{lt-ltb, le-ltb, ltb-true, ltb-false}
+use lib.Dec.{ltb}
 use lib.IntN.{ℤ, pos}
-use lib.ListN.{length, set, replicate, length-set, length-replicate, getD-replicate, List·getD-eq-default}
-use lib.Seq.{getD-set-same, getD-set-other, ext-getD}
+use lib.ListN.{set, replicate}
 use Rattle.proof_integer.specs.Vector.{length-tabulate, at-tabulate, tabulate-cong}
 use Rattle.rules.specs.Notation.{tabulate, at}
+use Rattle.sheet_figures.specs.Tabulated.{at-past, tabulate-zero, tabulate-set}
 
 -- `room` places, of which place x holds f x where it has a figure, and else 0
 unfoldable pub placed : ℕ → (ℕ → Bool) → (ℕ → ℤ) → List ℤ
@@ -36,10 +36,6 @@ rows room m n f = placed (32 * room) (inRows m n) (byRows f)
 
 -- ---- what stands at a place
 module _ (room : ℕ) (here : ℕ → Bool) (f : ℕ → ℤ) where
-  pub length-placed : length (placed room here f) ≡ room
-  unfolding placed
-  length-placed = length-tabulate room _
-
   module _ (x : ℕ) where
     pub at-figure : x < room → here x ≡ true → at (placed room here f) x ≡ f x
     unfolding placed
@@ -52,7 +48,7 @@ module _ (room : ℕ) (here : ℕ → Bool) (f : ℕ → ℤ) where
       where
         by : (b : Bool) → ltb x room ≡ b → at (tabulate room (λ x. cond (here x) (f x) (pos 0))) x ≡ pos 0
         by true l = rw (at-tabulate room (λ x. cond (here x) (f x) (pos 0)) x (ltb-true x room l), h)
-        by false l = List·getD-eq-default (tabulate room (λ x. cond (here x) (f x) (pos 0))) (pos 0) (rw length-tabulate (ltb-false x room l))
+        by false l = at-past (tabulate room _) x (rw length-tabulate (ltb-false x room l))
 
 -- ---- what a row, and what rows hold
 pub record RowHolds (n : ℕ) (f : ℕ → ℤ) (array : List ℤ) : Type 0 where
@@ -79,52 +75,49 @@ module _ (room m n : ℕ) (f : ℕ → ℕ → ℤ) (few : m ≤ room) (narrow :
   rows-here : (i j : ℕ) → i < m → j < n → at (rows room m n f) (32 * i + j) ≡ f i j
   unfolding rows
   rows-here i j p q =
+      let x = 32 * i + j in
       let (r, c) = row-parts i j (lt-of-lt-of-le q narrow) in
-      let figure = ap₂ _&&_ (lt-ltb ((32 * i + j) / 32) m (omega arith)) (lt-ltb ((32 * i + j) % 32) n (omega arith)) in
-      at-figure (32 * room) (inRows m n) (byRows f) (32 * i + j) (omega arith) figure ∙ rw (r, c) refl
+      let figure = ap₂ _&&_ (lt-ltb (x / 32) m (omega arith)) (lt-ltb (x % 32) n (omega arith)) in
+      at-figure (32 * room) (inRows m n) (byRows f) x (omega arith) figure ∙ rw (r, c) refl
+
+  empty : (x : ℕ) → inRows m n x ≡ false → at (rows room m n f) x ≡ pos 0
+  unfolding rows
+  empty x h = at-empty (32 * room) (inRows m n) (byRows f) x h
 
   pub rows-hold : RowsHold m n f (rows room m n f)
   unfolding rows
   rows-hold = record {
     here = rows-here;
-    below = λ i j p l. at-empty (32 * room) (inRows m n) (byRows f) (32 * i + j) (rw (row-parts i j l .0, le-ltb i m p));
-    beside = λ i j q l. at-empty (32 * room) (inRows m n) (byRows f) (32 * i + j) (rw (row-parts i j l .1, le-ltb j n q, and-false));
+    below = λ i j p l. empty (32 * i + j) (rw (row-parts i j l .0, le-ltb i m p));
+    beside = λ i j q l. empty (32 * i + j) (rw (row-parts i j l .1, le-ltb j n q, and-false));
   }
 
 -- ---- storing a figure
 module _ (room : ℕ) (here : ℕ → Bool) (f g : ℕ → ℤ) where
+  -- a place that has no figure holds 0, whatever the figures are
+  same : (x : ℕ) (b : Bool) → (b ≡ true → f x ≡ g x) → cond b (f x) (pos 0) ≡ cond b (g x) (pos 0)
+  same x true k = k refl
+  same x false k = refl
+
   -- only the places that have a figure count
   pub placed-cong : ((x : ℕ) → x < room → here x ≡ true → f x ≡ g x) → placed room here f ≡ placed room here g
   unfolding placed
   placed-cong h = tabulate-cong room _ _ (λ x l. same x (here x) (h x l))
-    where
-      same : (x : ℕ) (b : Bool) → (b ≡ true → f x ≡ g x) → cond b (f x) (pos 0) ≡ cond b (g x) (pos 0)
-      same x true k = k refl
-      same x false k = refl
 
   -- a figure stored at its place, where the others stay
-  pub placed-set : {x : ℕ} → x < room → here x ≡ true → ((y : ℕ) → y < room → here y ≡ true → (y ≡ x → ⊥) → f y ≡ g y)
+  pub placed-set : {x : ℕ} → x < room → here x ≡ true
+      → ((y : ℕ) → y < room → here y ≡ true → (y ≡ x → ⊥) → f y ≡ g y)
       → set (placed room here f) x (g x) ≡ placed room here g
+  unfolding placed
   placed-set {x} l t others =
-      ext-getD (pos 0) _ _ (simp (length-set, length-placed)) (λ y k. by y (simp (length-set, length-placed) at k) (eqb y x) refl (here y) refl)
-    where
-      by : (y : ℕ) → y < room → (b : Bool) → eqb y x ≡ b → (c : Bool) → here y ≡ c → at (set (placed room here f) x (g x)) y ≡ at (placed room here g) y
-      by y k true e c q =
-          let same : y ≡ x = eqb-true y x e in
-          rw same (getD-set-same (placed room here f) x (g x) (pos 0) (rw length-placed l) ∙ sym (at-figure room here g x l t))
-      by y k false e true q =
-          getD-set-other (placed room here f) x y (g x) (pos 0) (eqb-false y x e)
-          ∙ at-figure room here f y k q ∙ others y k q (eqb-false y x e) ∙ sym (at-figure room here g y k q)
-      by y k false e false q =
-          getD-set-other (placed room here f) x y (g x) (pos 0) (eqb-false y x e)
-          ∙ at-empty room here f y q ∙ sym (at-empty room here g y q)
+      tabulate-set room (λ y. cond (here y) (f y) (pos 0)) (λ y. cond (here y) (g y) (pos 0)) l (rw t)
+      (λ y k other. same y (here y) (λ h. others y k h other))
 
 -- no figure yet: every place holds 0
 pub placed-zero : (room : ℕ) (here : ℕ → Bool) → placed room here (λ x. pos 0) ≡ replicate room (pos 0)
-placed-zero room here =
-    ext-getD (pos 0) _ _ (length-placed room here (λ x. pos 0) ∙ sym (length-replicate room (pos 0)))
-    (λ x l. by x (rw length-placed at l) (here x) refl)
+unfolding placed
+placed-zero room here = tabulate-zero room _ (λ x _. zero-at (here x))
   where
-    by : (x : ℕ) → x < room → (b : Bool) → here x ≡ b → at (placed room here (λ x. pos 0)) x ≡ at (replicate room (pos 0)) x
-    by x l true h = at-figure room here (λ x. pos 0) x l h ∙ sym (getD-replicate room x (pos 0) (pos 0) l)
-    by x l false h = at-empty room here (λ x. pos 0) x h ∙ sym (getD-replicate room x (pos 0) (pos 0) l)
+    zero-at : (b : Bool) → cond b (pos 0) (pos 0) ≡ pos 0
+    zero-at true = refl
+    zero-at false = refl
