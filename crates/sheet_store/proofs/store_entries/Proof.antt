@@ -129,11 +129,11 @@ module _ (c : tie.After-known-told Inv-loop μ-loop) where
   fits : Storable (placed .kind) (placed .place) (placed .value)
   fits = entry-fits (S a) (i a) (sizes a) (there a) read
 
-  after : (mine : Kind) {array : List ℤ} → array ≡ arrayAfter (S a) mine (i a)
-      → storeIf mine (placed .kind) (placed .place) (toZ w32 (ofZ w32 (placed .value))) array
-      ≡ arrayAfter (S a) mine (i a + 1)
-  after mine {array} e =
-      (λ j. storeIf mine (placed .kind) (placed .place) (value-kept j) array)
+  after : (mine : Kind) {array new : List ℤ}
+      → new ≡ storeIf mine (placed .kind) (placed .place) (toZ w32 (ofZ w32 (placed .value))) array
+      → array ≡ arrayAfter (S a) mine (i a) → new ≡ arrayAfter (S a) mine (i a + 1)
+  after mine {array} h e =
+      h ∙ (λ j. storeIf mine (placed .kind) (placed .place) (value-kept j) array)
       ∙ entry-stored (S a) (i a) (sizes a) (there a) read mine e
 
 -- it was told before the five arrays were lent
@@ -152,11 +152,11 @@ loop-again c =
       within = omega arith;
       values = scan-more 6 (badValue (S (a told))) (turn .values) (good told);
       arrays = record {
-        costs = cost ∙ after told Cost (turn .arrays .costs);
-        leasts = least ∙ after told Least (turn .arrays .leasts);
-        mosts = most ∙ after told Most (turn .arrays .mosts);
-        coefficients = coefficient ∙ after told Coefficient (turn .arrays .coefficients);
-        right-hand-sides = rhs ∙ after told Rhs (turn .arrays .right-hand-sides);
+        costs = after told Cost cost (turn .arrays .costs);
+        leasts = after told Least least (turn .arrays .leasts);
+        mosts = after told Most most (turn .arrays .mosts);
+        coefficients = after told Coefficient coefficient (turn .arrays .coefficients);
+        right-hand-sides = after told Rhs rhs (turn .arrays .right-hand-sides);
       };
     }
 
