@@ -94,7 +94,7 @@ loop-again c =
     record {
       within = omega arith;
       keys = scan-more 5 (badKey (S a)) (turn a .keys) (good c .0);
-      floor-is = sym (floor-next (S a) (i a) ∙ ap (λ k. k + 1) (good c .1));
+      floor-is = omega (arith, floor-next (S a) (i a), good c .1);
     }
 
 returns-2 : tie.Need-returns-2 Inv-loop μ-loop

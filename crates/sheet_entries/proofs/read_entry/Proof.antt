@@ -65,7 +65,8 @@ returns-2 : tie.Need-returns-2
 unfolding entryOf
 returns-2 c =
     let f = c .before in
-    let zero = sym (value-kept f) ∙ ap (toZ w32) (c .if1 .taken) in
+    let bits : ofZ w32 (value f) ≡ 0 = omega arith in
+    let zero = sym (value-kept f) ∙ ap (toZ w32) bits in
     sym (zero-value (n f) (m f) (key f) (value f) (figure f .0) zero)
 
 -- ---- the value is not 0, and its range is that of the kind
@@ -74,7 +75,7 @@ module _ (c : tie.After-in-range) where
   f = c .before .before
 
   other : value f ≡ pos 0 → ⊥
-  other e = c .before .if1 .left (ap (ofZ w32) e)
+  other e = c .before .if1 .left (omega (arith, ap (ofZ w32) e))
 
   range : inRange (rangeOf (kindAt (n f) (row f) (column f))) (value f) ≡ c .in-range .result
   range = (λ j. inRange (rangeOf (figure f .1 j)) (sym (value-kept f) j)) ∙ sym (c .in-range .ensures)

@@ -38,5 +38,5 @@ place-of-spec =
     (λ c. rw (c .enum-told .given .1) refl)
     (λ c. rw (c .enum-told2 .given .1) refl)
     (λ c. rw (c .enum-told3 .given .1) refl)
-    (λ c. rw (c .enum-told4 .given .1) refl)
-    (λ c. rw (c .enum-told5 .given .1) refl))
+    (λ c. rw (c .enum-told4 .given .1) (omega arith))
+    (λ c. rw (c .enum-told5 .given .1) (omega arith)))

@@ -51,7 +51,7 @@ unfolding refusalOf numbered numberOf
 returns-2 c =
     let taken = c .before in
     let d = taken .before in
-    let out = ap not (ne-eqb (bytes d) (sheetLength (sizes d .entries)) (taken .if2 .taken)) in
+    let out = ap not (ne-eqb (bytes d) (sheetLength (sizes d .entries)) (λ q. taken .if2 .taken (omega arith))) in
     ap refusalOf (c .refused2 .ensures) ∙ sym (after-dimensions d ∙ given _ (refuse-yes 3 0 out))
 
 -- ---- and the length fits
@@ -59,7 +59,8 @@ after-length : (c : tie.After-parameters-in-range) → let d = c .before .before
     headerRefusal (bytes d) (sizes d) ≡ refuse 4 0 (not (c .parameters-in-range .result))
 after-length c =
     let d = c .before .before in
-    let fits = ap not (eq-eqb (bytes d) (sheetLength (sizes d .entries)) (c .before .if2 .left)) in
+    let length-is = c .before .if2 .left in
+    let fits = ap not (eq-eqb (bytes d) (sheetLength (sizes d .entries)) (omega arith)) in
     after-dimensions d ∙ handed-on _ (refuse-no 3 0 fits)
     ∙ ap (λ b. refuse 4 0 (not b)) (sym (c .parameters-in-range .ensures))
 

@@ -85,8 +85,7 @@ module _ (c : tie.After-read-entry Inv-loop μ-loop) where
       let number = c .before .signed-32 in
       let fits : SFits w32 (number .result) = search needs in
       let same : toZ w32 (ofZ w32 (number .result)) ≡ S here .value (i here)
-      = toZ-ofZ fits ∙ number .ensures
-      ∙ (λ j. signedAt 4 (start here .args .s .now) (12 + 2 * z j .entries + 4 * i here)) in
+      = toZ-ofZ fits ∙ number .ensures ∙ ap (signedAt 4 (start here .args .s .now)) (omega (arith, entries-is (header here))) in
       c .read-entry .ensures
       ∙ (λ j. entryRead (z j .materials) (z j .limits) (c .before .before .size-at .ensures .is j) (same j))
 
