@@ -1,20 +1,17 @@
 -- What the tests that the code makes say of a key and of an entry.
 use mathlib.Core.Path.{_≡_, ap}
-use mathlib.Core.Bool.{Bool, true, false, cond}
-use Prim.Native.Nat.{ℕ, zero, suc, _≤_, _<_}
+use mathlib.Core.Bool.{true, false}
+use Prim.Native.Nat.{ℕ, _≤_, _<_}
 use native.Mathlib.Omega.{arith}
 use borrow.Author.Tests.{lt-ltb, le-ltb, ne-eqb}
 use lib.Dec.{eqb}
 use lib.IntN.{ℤ, pos, negsuc, natAbs}
-use Rattle.rules.specs.declared.Kind.{Kind}
-use Rattle.rules.specs.declared.Kind.the-variants.{Coefficient, Rhs}
 use Rattle.rules.specs.Sheet.{rowOf, columnOf}
-use Rattle.rules.specs.Ranges.{rangeOf, kindAt, inRange}
+use Rattle.rules.specs.Ranges.{rangeOf, inRange}
 use Rattle.rules.specs.Refusals.{noFigureAt}
-use Rattle.proof_laws.specs.Entries.{figure-at}
-use Rattle.sheet_ranges.specs.Read.{gives, refused, unless}
+use Rattle.sheet_kinds.specs.Read.{gives, refused, unless}
 use Rattle.sheet_entries.specs.KeyRead.{keyRead}
-use Rattle.sheet_entries.specs.EntryRead.{PlaceAsked, firstRow, entryKind, entryPlaced, entryRead}
+use Rattle.sheet_entries.specs.EntryRead.{entryKind, entryPlaced, entryRead}
 
 -- ---- a key
 module _ (n m floor key : ℕ) where
@@ -55,25 +52,7 @@ module _ (n m key : ℕ) (value : ℤ) where
       unfolding entryRead unless
       out-of-range k = rw (h, nonzero value other, k)
 
-      pub in-range : inRange (rangeOf (entryKind n m key value)) value ≡ true → entryRead n m key value ≡ gives (entryPlaced n m key value)
+      pub in-range : inRange (rangeOf (entryKind n m key value)) value ≡ true
+          → entryRead n m key value ≡ gives (entryPlaced n m key value)
       unfolding entryRead unless
       in-range k = rw (h, nonzero value other, k)
-
--- ---- the row of a figure is one of its kind's, and small
-first-row : (n row column : ℕ) → firstRow (kindAt n row column) ≤ row
-unfolding firstRow kindAt
-first-row n zero column = omega arith
-first-row n (suc zero) column = omega arith
-first-row n (suc (suc zero)) column = omega arith
-first-row n (suc (suc (suc i))) column = by (eqb column n)
-  where
-    by : (b : Bool) → firstRow (cond b Rhs Coefficient) ≤ suc (suc (suc i))
-    by true = omega arith
-    by false = omega arith
-
-pub place-asked : (n m key : ℕ) {kind : Kind} → m ≤ 16 → noFigureAt n m (rowOf key) (columnOf key) ≡ false → kindAt n (rowOf key) (columnOf key) ≡ kind
-    → PlaceAsked kind (rowOf key) (columnOf key)
-place-asked n m key few h e =
-    let f = figure-at n m (rowOf key) (columnOf key) h in
-    let first = first-row n (rowOf key) (columnOf key) in
-    record { from = rw (← e) first; row-small = omega arith; column-small = omega arith }

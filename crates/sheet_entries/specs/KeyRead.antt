@@ -4,7 +4,7 @@ use Prim.Native.Nat.{ℕ}
 use lib.Dec.{ltb}
 use Rattle.rules.specs.Sheet.{rowOf, columnOf}
 use Rattle.rules.specs.Refusals.{noFigureAt}
-use Rattle.sheet_ranges.specs.Read.{Read, gives, refused, unless}
+use Rattle.sheet_kinds.specs.Read.{Read, gives, refused, unless}
 use Rattle.sheet_entries.specs.declared.Key.{Key}
 use Rattle.sheet_entries.specs.declared.Key.the-variants.{Good, Bad}
 

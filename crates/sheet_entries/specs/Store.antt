@@ -9,26 +9,11 @@ use lib.Signed.{_≤ℤ_, leZ-yes}
 use lib.Ieee.Fits.{and-l, and-r}
 use Rattle.proof_integer.specs.Range.{sfits-between}
 use lib.ListN.{set}
-use mir.Syntax.{Width, w16, w32}
 use mir.Val.{SFits}
 use Rattle.rules.specs.declared.Kind.{Kind}
 use Rattle.rules.specs.declared.Kind.the-variants.{Cost, Least, Most, Coefficient, Rhs}
 use Rattle.rules.specs.Ranges.{ranges, indexOf, rangeOf, inRange}
-
--- the places of the array of a kind, and the width of its figures
-unfoldable pub roomOf : Kind → ℕ
-roomOf Cost = 32
-roomOf Least = 32
-roomOf Most = 32
-roomOf Coefficient = 512
-roomOf Rhs = 16
-
-unfoldable pub widthOf : Kind → Width
-widthOf Cost = w16
-widthOf Least = w16
-widthOf Most = w16
-widthOf Coefficient = w16
-widthOf Rhs = w32
+use Rattle.sheet_figures.specs.Places.{roomOf, widthOf}
 
 -- storing asks that place and value fit the array
 pub record Storable (kind : Kind) (place : ℕ) (value : ℤ) : Type 0 where
@@ -48,10 +33,10 @@ ends-fit Most = (record { sfits = lit< tt }, record { sfits = lit< tt })
 ends-fit Coefficient = (record { sfits = lit< tt }, record { sfits = lit< tt })
 ends-fit Rhs = (record { sfits = lit< tt }, record { sfits = lit< tt })
 
-pub fits : (kind : Kind) (v : ℤ) → inRange (rangeOf kind) v ≡ true → SFits (widthOf kind) v
+pub in-range-fits : (kind : Kind) (v : ℤ) → inRange (rangeOf kind) v ≡ true → SFits (widthOf kind) v
 unfolding inRange
-fits kind v h =
+in-range-fits kind v h =
     let t : T (inRange (rangeOf kind) v) = rw h tt in
-    let low : rangeOf kind .least ≤ℤ v = search (and-l, and-r, leZ-yes) in
+    let low : rangeOf kind .least ≤ℤ v = search (and-l, leZ-yes) in
     let high : v ≤ℤ rangeOf kind .greatest = search (and-l, and-r, leZ-yes) in
     sfits-between (ends-fit kind .0) (ends-fit kind .1) low high

@@ -1,14 +1,15 @@
 // One entry of a sheet: its key, its value, and its place in the arrays of figures.
 ghost use mathlib.Core.Path.{_≡_};
 ghost use Rattle.rules.specs.declared.Kind.the-variants.{Cost, Least, Most, Coefficient, Rhs};
-ghost use Rattle.sheet_ranges.specs.Meaning.{FewLimits};
+ghost use Rattle.sheet_kinds.specs.Meaning.{FewLimits};
 ghost use Rattle.sheet_entries.specs.KeyRead.{keyOf, keyRead};
-ghost use Rattle.sheet_entries.specs.EntryRead.{PlaceAsked, placeOf, entryOf, entryRead};
+ghost use Rattle.sheet_entries.specs.EntryRead.{entryOf, entryRead};
 ghost use Rattle.sheet_entries.specs.Store.{Storable, storeIf};
 use rules::Kind;
-use sheet_ranges::Meaning;
+use sheet_figures::place_of;
+use sheet_kinds::Meaning;
+use sheet_kinds::meaning_at;
 use sheet_ranges::in_range;
-use sheet_ranges::meaning_at;
 
 // What reading an entry's key gives: the key, or refusal 5.
 pub enum Key {
@@ -17,12 +18,13 @@ pub enum Key {
 }
 
 // What reading an entry gives: a value, with its kind and its place in the array of that kind, or refusal 6.
-pub enum Entry {
+pub enum EntryValue {
     Figure { kind: Kind, at: usize, value: i32 },
     Bad,
 }
 
-// A key, with n materials and m limits. `floor` is the least key that it may be: one more than the key before, if there is one, and else 0.
+// A key, with n materials and m limits. `floor` is the least key that it may be:
+// one more than the key before, if there is one, and else 0.
 pub fn read_key(n: usize, m: usize, floor: usize, key: usize) -> Key
     requires { ⌜ FewLimits m ⌝ }
     ensures { λ r. ⌜ keyOf r ≡ keyRead n m floor key ⌝ }
@@ -37,22 +39,8 @@ pub fn read_key(n: usize, m: usize, floor: usize, key: usize) -> Key
     Key::Good(key)
 }
 
-// The place of a figure in the array of its kind.
-fn place_of(kind: Kind, row: usize, column: usize) -> usize
-    requires { ⌜ PlaceAsked kind row column ⌝ }
-    ensures { λ r. ⌜ r ≡ placeOf kind row column ⌝ }
-{
-    match kind {
-        Kind::Cost => column,
-        Kind::Least => column,
-        Kind::Most => column,
-        Kind::Coefficient => 32 * (row - 3) + column,
-        Kind::Rhs => row - 3,
-    }
-}
-
 // An entry, with n materials and m limits.
-pub fn read_entry(n: usize, m: usize, key: usize, value: i32) -> Entry
+pub fn read_entry(n: usize, m: usize, key: usize, value: i32) -> EntryValue
     requires { ⌜ FewLimits m ⌝ }
     ensures { λ r. ⌜ entryOf r ≡ entryRead n m key value ⌝ }
 {
@@ -60,16 +48,16 @@ pub fn read_entry(n: usize, m: usize, key: usize, value: i32) -> Entry
     let column = key % 64;
     let meaning = meaning_at(n, m, row, column);
     let Meaning::Figure(kind) = meaning else {
-        return Entry::Bad;
+        return EntryValue::Bad;
     };
     if value == 0 {
-        return Entry::Bad;
+        return EntryValue::Bad;
     }
     if !in_range(kind, value) {
-        return Entry::Bad;
+        return EntryValue::Bad;
     }
     let at = place_of(kind, row, column);
-    Entry::Figure {
+    EntryValue::Figure {
         kind: kind,
         at: at,
         value: value,

@@ -6,7 +6,7 @@ use lib.ListN.{replicate}
 use Rattle.rules.specs.Notation.{at}
 use Rattle.rules.specs.Problem.{Problem}
 use Rattle.sheet_figures.specs.declared.Figures.{Figures}
-use Rattle.sheet_figures.specs.Arrays.{RowHolds, RowsHold, row, rows, row-holds, rows-hold}
+use Rattle.sheet_figures.specs.PartlyFilled.{RowHolds, RowsHold, row, rows, row-holds, rows-hold}
 
 -- the figures of a problem in arrays of 32 and 16 places, and of 16 rows of 32
 unfoldable pub figuresOf : Problem → ℕ → Figures
@@ -40,7 +40,8 @@ problemIn n m p D c l u a b = record {
 -- the problem whose figures these are
 abbrev pub problemOf : Figures → Problem
 problemOf F =
-    problemIn (F .materials) (F .limits) (F .numerator) (F .scale) (F .cost) (F .least) (F .most) (F .coefficient) (F .rhs)
+    problemIn (F .materials) (F .limits) (F .numerator) (F .scale)
+    (F .cost) (F .least) (F .most) (F .coefficient) (F .rhs)
 
 -- no figures: every size and every place is 0
 unfoldable pub noFigures : Figures
@@ -58,14 +59,14 @@ noFigures = record {
 }
 
 -- Each figure stands at its place, and every place past n and m holds 0.
-pub record Holds (P : Problem) (F : Figures) : Type 0 where
+pub record FiguresHold (P : Problem) (F : Figures) : Type 0 where
   pub costs : RowHolds (P .materials) (P .cost) (F .cost)
   pub leasts : RowHolds (P .materials) (P .least) (F .least)
   pub mosts : RowHolds (P .materials) (P .most) (F .most)
   pub coefficients : RowsHold (P .limits) (P .materials) (P .coefficient) (F .coefficient)
   pub right-hand-sides : RowHolds (P .limits) (P .rhs) (F .rhs)
 
-pub figures-hold : (P : Problem) (k : ℕ) → P .materials ≤ 32 → P .limits ≤ 16 → Holds P (figuresOf P k)
+pub figures-hold : (P : Problem) (k : ℕ) → P .materials ≤ 32 → P .limits ≤ 16 → FiguresHold P (figuresOf P k)
 unfolding figuresOf
 figures-hold P k narrow few = record {
   costs = row-holds 32 (P .materials) (P .cost) narrow;

@@ -1,11 +1,7 @@
-// The table of ranges, held as constants, and what a row and a column mean. Whoever reads, writes or edits a sheet consults these.
+// The table of ranges, a constant, and the ranges of the sizes. Whoever reads, writes or edits a sheet consults these.
 ghost use Prim.Native.Nat.{_<_};
 ghost use mathlib.Core.Path.{_≡_};
-ghost use mathlib.Core.Bool.{_||_};
-ghost use lib.Dec.{ltb, eqb};
-ghost use Rattle.rules.specs.Ranges.{indexOf, rangeOf, inRange, between, dimensionsInRange, parametersInRange, kindAt};
-ghost use Rattle.sheet_ranges.specs.Meaning.{FewLimits, meaningOf, meaningAt};
-ghost use Rattle.sheet_ranges.specs.Read.{unless};
+ghost use Rattle.rules.specs.Ranges.{indexOf, rangeOf, inRange, between, dimensionsInRange, parametersInRange};
 use rules::Kind;
 use rules::Range;
 
@@ -13,36 +9,35 @@ use rules::Range;
 const RANGES: [Range; 5] = [
     // row 0: cost
     Range {
+        kind: Kind::Cost,
         least: -10000,
         greatest: 10000,
     },
     // row 1: least amount
     Range {
+        kind: Kind::Least,
         least: 1,
         greatest: 1000,
     },
     // row 2: most amount
     Range {
+        kind: Kind::Most,
         least: 1,
         greatest: 1000,
     },
     // rows 3 to m+2, columns 0 to n-1: a of limit row-3
     Range {
+        kind: Kind::Coefficient,
         least: -1000,
         greatest: 1000,
     },
     // rows 3 to m+2, column n: b of limit row-3
     Range {
+        kind: Kind::Rhs,
         least: -32000000,
         greatest: 32000000,
     },
 ];
-
-// What stands at a row and a column of a sheet.
-pub enum Meaning {
-    Figure(Kind),
-    Nothing,
-}
 
 // Where a kind of figure stands in the table.
 fn index_of(kind: Kind) -> usize
@@ -96,48 +91,4 @@ pub fn parameters_in_range(p: usize, d: usize, k: usize) -> bool
     ensures { λ r. ⌜ r ≡ parametersInRange p d k ⌝ }
 {
     between(1, 1024, p) & between(1, 1024, d) & between(1, 4096, k)
-}
-
-// A figure of a material stands in the columns below n.
-fn of_material(kind: Kind, n: usize, column: usize) -> Meaning
-    ensures { λ r. ⌜ meaningOf r ≡ unless 5 (ltb n column || eqb column n) kind ⌝ }
-{
-    if n <= column {
-        Meaning::Nothing
-    } else {
-        Meaning::Figure(kind)
-    }
-}
-
-// In a limit's row, its coefficients stand in the columns below n, and its right-hand side in column n.
-fn of_limit(n: usize, column: usize) -> Meaning
-    ensures { λ r. ⌜ meaningOf r ≡ unless 5 (ltb n column) (kindAt n 3 column) ⌝ }
-{
-    if column < n {
-        return Meaning::Figure(Kind::Coefficient);
-    }
-    if column == n {
-        return Meaning::Figure(Kind::Rhs);
-    }
-    Meaning::Nothing
-}
-
-// What stands at a row and a column, with n materials and m limits: the row decides what a figure means.
-pub fn meaning_at(n: usize, m: usize, row: usize, column: usize) -> Meaning
-    requires { ⌜ FewLimits m ⌝ }
-    ensures { λ r. ⌜ meaningOf r ≡ meaningAt n m row column ⌝ }
-{
-    match row {
-        0 => of_material(Kind::Cost, n, column),
-        1 => of_material(Kind::Least, n, column),
-        2 => of_material(Kind::Most, n, column),
-        3..=18 => {
-            if row <= m + 2 {
-                of_limit(n, column)
-            } else {
-                Meaning::Nothing
-            }
-        }
-        _ => Meaning::Nothing,
-    }
 }

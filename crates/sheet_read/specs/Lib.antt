@@ -1,5 +1,3 @@
--- What reading a sheet gives, and what the passes over it ask and give.
---   Reading   what `read_sheet` promises
---   Passes    the header, the keys, the arrays while the entries are stored, and the bounds
+-- What reading a sheet gives.
+--   Reading   the figures beside a refusal or none; what `read_figures` and `read_sheet` promise
 pub mod Reading
-pub mod Passes

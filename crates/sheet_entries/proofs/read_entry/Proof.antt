@@ -2,6 +2,7 @@
 use mathlib.Core.Path.{_≡_, sym, ap, _∙_}
 use mathlib.Core.Bool.{false}
 use Prim.Native.Nat.{ℕ}
+use native.Mathlib.Omega.{arith}
 use borrow.Author.Needs.{needs}
 use borrow.Author.Tests.{not-true, not-false}
 use lib.IntN.{ℤ, pos}
@@ -11,23 +12,29 @@ use mir.Facts.{toZ-ofZ}
 use Rattle.rules.specs.Sheet.{rowOf, columnOf}
 use Rattle.rules.specs.Ranges.{rangeOf, kindAt, inRange}
 use Rattle.rules.specs.Refusals.{noFigureAt}
-use Rattle.sheet_ranges.specs.Read.{gives, gives-says, refused-says}
-use Rattle.sheet_ranges.specs.Meaning.{meaningOf, meaningAt}
-use Rattle.sheet_entries.specs.EntryRead.{placeOf, entryOf}
-use Rattle.sheet_entries.proofs.Tests.{no-entry, zero-value, out-of-range, in-range, place-asked}
+use Rattle.proof_laws.specs.Entries.{figure-at}
+use Rattle.sheet_figures.specs.Places.{placeOf, placeable}
+use Rattle.sheet_kinds.specs.Read.{gives, gives-says, refused-says}
+use Rattle.sheet_kinds.specs.Meaning.{meaningOf, meaningAt}
+use Rattle.sheet_entries.specs.EntryRead.{entryOf}
+use Rattle.sheet_entries.proofs.Tests.{no-entry, zero-value, out-of-range, in-range}
 use Rattle.sheet_entries.proofs.read_entry.Statement.{statement}
 use Rattle.sheet_entries.proofs.read_entry.Tie as tie
 
 returns : tie.Need-returns
 unfolding entryOf meaningOf meaningAt
 returns c =
-    let none-there = refused-says 5 5 _ _ (sym (c .before .before .meaning-at .ensures) ∙ ap meaningOf (c .enum-told .given .1)) in
+    let found = c .before .before .meaning-at in
+    let none-there = refused-says 5 5 _ _ (sym (found .ensures) ∙ ap meaningOf (c .enum-told .given .1)) in
     sym (no-entry _ _ _ _ none-there)
 
--- a figure stands there, of the kind that was found
+-- ---- a figure stands there, of the kind that was found
 module _ (c : tie.After-known-told) where
+  abbrev found : tie.After-meaning-at
+  found = c .before .before .before
+
   abbrev start : tie.Start
-  start = c .before .before .before .before
+  start = found .before
 
   abbrev n : ℕ
   n = start .args .n
@@ -41,9 +48,15 @@ module _ (c : tie.After-known-told) where
   abbrev value : ℤ
   value = start .args .value
 
-  figure : (noFigureAt n m (rowOf key) (columnOf key) ≡ false) × (kindAt n (rowOf key) (columnOf key) ≡ c .before .meaning .given .0 .0)
+  abbrev row : ℕ
+  row = rowOf key
+
+  abbrev column : ℕ
+  column = columnOf key
+
+  figure : (noFigureAt n m row column ≡ false) × (kindAt n row column ≡ c .before .meaning .given .0 .0)
   unfolding meaningOf meaningAt
-  figure = gives-says 5 _ _ _ (sym (c .before .before .before .meaning-at .ensures) ∙ ap meaningOf (c .before .meaning .given .1))
+  figure = gives-says 5 _ _ _ (sym (found .meaning-at .ensures) ∙ ap meaningOf (c .before .meaning .given .1))
 
   value-kept : toZ w32 (ofZ w32 value) ≡ value
   value-kept = toZ-ofZ (start .fits .value)
@@ -51,40 +64,46 @@ module _ (c : tie.After-known-told) where
 returns-2 : tie.Need-returns-2
 unfolding entryOf
 returns-2 c =
-    let found = c .before in
-    sym (zero-value (n found) (m found) (key found) (value found) (figure found .0) (sym (value-kept found) ∙ ap (toZ w32) (c .if1 .taken)))
+    let f = c .before in
+    let bits : ofZ w32 (value f) ≡ 0 = omega arith in
+    let zero = sym (value-kept f) ∙ ap (toZ w32) bits in
+    sym (zero-value (n f) (m f) (key f) (value f) (figure f .0) zero)
 
--- the value is not 0, and its range is that of the kind
+-- ---- the value is not 0, and its range is that of the kind
 module _ (c : tie.After-in-range) where
-  abbrev found : tie.After-known-told
-  found = c .before .before
+  abbrev f : tie.After-known-told
+  f = c .before .before
 
-  other : value found ≡ pos 0 → ⊥
-  other e = c .before .if1 .left (ap (ofZ w32) e)
+  other : value f ≡ pos 0 → ⊥
+  other e = c .before .if1 .left (omega (arith, ap (ofZ w32) e))
 
-  range : inRange (rangeOf (kindAt (n found) (rowOf (key found)) (columnOf (key found)))) (value found) ≡ c .in-range .result
-  range = (λ j. inRange (rangeOf (figure found .1 j)) (sym (value-kept found) j)) ∙ sym (c .in-range .ensures)
+  range : inRange (rangeOf (kindAt (n f) (row f) (column f))) (value f) ≡ c .in-range .result
+  range = (λ j. inRange (rangeOf (figure f .1 j)) (sym (value-kept f) j)) ∙ sym (c .in-range .ensures)
 
 returns-3 : tie.Need-returns-3
 unfolding entryOf
 returns-3 c =
     let tested = c .before in
-    sym (out-of-range (n (found tested)) (m (found tested)) (key (found tested)) (value (found tested)) (figure (found tested) .0) (other tested) (range tested ∙ not-true _ (c .if2 .taken)))
+    let a = f tested in
+    let out = range tested ∙ not-true _ (c .if2 .taken) in
+    sym (out-of-range (n a) (m a) (key a) (value a) (figure a .0) (other tested) out)
 
 place-of-requires : tie.Need-place-of-requires
 place-of-requires c κs =
-    let at = found (c .before) in
-    place-asked (n at) (m at) (key at) (start at .pre .few) (figure at .0) (figure at .1)
+    let a = f (c .before) in
+    let figure-is = figure-at (n a) (m a) (row a) (column a) (figure a .0) in
+    placeable (n a) (m a) (row a) (column a) (start a .pre .few) (omega arith) figure-is (figure a .1)
 
 returns-4 : tie.Need-returns-4
 unfolding entryOf
 returns-4 c =
     let tested = c .before .before in
-    let at = found tested in
-    let kind = sym (figure at .1) in
-    let place = c .place-of .ensures ∙ (λ j. placeOf (kind j) (rowOf (key at)) (columnOf (key at))) in
-    (λ j. gives (record { kind = kind j; place = place j; value = value-kept at j }))
-    ∙ sym (in-range (n at) (m at) (key at) (value at) (figure at .0) (other tested) (range tested ∙ not-false _ (c .before .if2 .left)))
+    let a = f tested in
+    let kind = sym (figure a .1) in
+    let place = c .place-of .ensures ∙ (λ j. placeOf (kind j) (row a) (column a)) in
+    let inside = range tested ∙ not-false _ (c .before .if2 .left) in
+    (λ j. gives (record { kind = kind j; place = place j; value = value-kept a j }))
+    ∙ sym (in-range (n a) (m a) (key a) (value a) (figure a .0) (other tested) inside)
 
 pub read-entry-spec : {M : Type 1} → statement M
 read-entry-spec =

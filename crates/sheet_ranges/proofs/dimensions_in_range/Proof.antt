@@ -1,8 +1,9 @@
 -- The product is formed where n and m lie in their ranges, and is small then.
 use Prim.Native.Nat.{ℕ, _+_, _*_, _≤_, zero-le}
-use mathlib.Core.Path.{_≡_, refl}
+use mathlib.Core.Path.{_≡_, ap}
 use mathlib.Core.Bool.{true, _&&_, and-eq-true-iff}
 use native.Mathlib.Omega.{arith}
+use lib.Dec.{leb}
 use borrow.Author.Needs.{needs}
 use borrow.Author.Tests.{le-leb, leb-true}
 use Rattle.rules.specs.Ranges.{between, dimensionsInRange}
@@ -18,7 +19,8 @@ few n m h =
     few-entries (omega (arith, leb-true)) (omega (arith, leb-true))
 
 -- the test that the code has passed, as the definition has it
-passed : (c : tie.Then1) → let a = c .before .before .before .args in (between 1 32 (a .n) && between 0 16 (a .m)) ≡ true
+passed : (c : tie.Then1) → let a = c .before .before .before .args in
+    (between 1 32 (a .n) && between 0 16 (a .m)) ≡ true
 passed c = rw (c .before .before .between .ensures, c .before .between2 .ensures) at (c .if1 .taken)
 
 add-result : tie.Need-add-result
@@ -32,7 +34,9 @@ add-result-2 c = omega (arith, few _ _ (passed c))
 
 returns : tie.Need-returns
 unfolding dimensionsInRange between
-returns c = rw (passed c, le-leb 0 (c .before .before .before .args .e) zero-le) refl
+returns c =
+    let e = c .before .before .before .args .e in
+    rw (passed c, le-leb 0 e zero-le) (ap (leb e) (omega arith))
 
 returns-2 : tie.Need-returns-2
 unfolding dimensionsInRange

@@ -1,5 +1,5 @@
 -- A verdict, and beside it the figures of none.
-use Rattle.sheet_read.specs.Passes.{withoutFigures}
+use Rattle.sheet_read.specs.Reading.{withoutFigures}
 use borrow.Author.Needs.{needs}
 use Rattle.sheet_read.proofs.without_figures.Statement.{statement}
 use Rattle.sheet_read.proofs.without_figures.Tie as tie

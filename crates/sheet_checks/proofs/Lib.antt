@@ -1,0 +1,3 @@
+-- What the proofs share.
+--   Floor   the least key that an entry may have
+pub mod Floor

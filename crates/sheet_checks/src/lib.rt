@@ -1,0 +1,50 @@
+// The checks of a sheet that store nothing: its keys, and its bounds once they are stored. Refusals 5 and 7.
+ghost use mathlib.Core.Path.{_≡_};
+ghost use Rattle.rules.specs.Sheet.{sheetOf};
+ghost use Rattle.rules.specs.Refusals.{refusalOf};
+ghost use Rattle.sheet_header.specs.Header.{Headed};
+ghost use Rattle.sheet_checks.specs.Keys.{keyRefusal};
+ghost use Rattle.sheet_checks.specs.Bounds.{FewMaterials, crossedRefusal};
+use bytes_read::size_at;
+use rules::Cause;
+use rules::Verdict;
+use sheet_entries::Key;
+use sheet_entries::read_key;
+use sheet_header::Sizes;
+use sheet_header::refused;
+
+// Refusal 5: the first entry whose key is bad.
+pub fn check_keys(s: &[u8], sizes: Sizes) -> Verdict
+    requires { ⌜ Headed (now s) sizes ⌝ }
+    ensures { λ r. ⌜ refusalOf r ≡ keyRefusal (sheetOf (now (s .entry))) ⌝ }
+{
+    let n = sizes.materials;
+    let m = sizes.limits;
+    let e = sizes.entries;
+    let mut floor: usize = 0;
+    let mut i: usize = 0;
+    while i < e {
+        let read = read_key(n, m, floor, size_at(s, 12 + 2 * i));
+        let Key::Good(key) = read else {
+            return refused(i, Cause::Key);
+        };
+        floor = key + 1;
+        i += 1;
+    }
+    Verdict::Passed
+}
+
+// Refusal 7: the first material whose least amount is above its most.
+pub fn check_bounds(n: usize, least: &[i16; 32], most: &[i16; 32]) -> Verdict
+    requires { ⌜ FewMaterials n ⌝ }
+    ensures { λ r. ⌜ refusalOf r ≡ crossedRefusal n (now (least .entry)) (now (most .entry)) ⌝ }
+{
+    let mut j: usize = 0;
+    while j < n {
+        if most[j] < least[j] {
+            return refused(j, Cause::Bounds);
+        }
+        j += 1;
+    }
+    Verdict::Passed
+}
