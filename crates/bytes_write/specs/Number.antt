@@ -1,7 +1,7 @@
 -- A number of w bytes: what writing it asks, and how many bytes it has.
 use mathlib.Core.Path.{_≡_, refl, sym, ap}
 use mathlib.Core.List.{List, [], _∷_}
-use Prim.Native.Nat.{ℕ, zero, suc, _-_, _*_, _/_, _^_, _≤_, _<_}
+use Prim.Native.Nat.{ℕ, zero, suc, _+_, _-_, _*_, _/_, _^_, _≤_, _<_}
 use native.Mathlib.Nat.{mul-zero, mul-suc}
 use native.Mathlib.Omega.{arith}
 use lib.IntN.{ℤ, pos, negsuc}
@@ -11,12 +11,13 @@ use Rattle.rules.specs.Bytes.{unsignedBytes, signedBytes}
 use Rattle.rules.specs.Record.{fields}
 
 -- an unsigned number asks for room
-pub record Room (w : ℕ) (d : List ℕ) : Type 0 where
-  pub room : w ≤ length d
+pub record Room (at w : ℕ) (d : List ℕ) : Type 0 where
+  pub room : at + w ≤ length d
 
--- A signed number asks for room, and that it is one of w bytes in two's complement; `mag v` is n for n and for −(n + 1).
-pub record SignedRoom (w : ℕ) (v : ℤ) (d : List ℕ) : Type 0 where
-  pub room : w ≤ length d
+-- A signed number asks for room, and that it is one of w bytes in two's complement.
+-- `mag v` is n for n and for −(n + 1).
+pub record SignedRoom (at w : ℕ) (v : ℤ) (d : List ℕ) : Type 0 where
+  pub room : at + w ≤ length d
   pub narrow : w ≤ 8
   pub small : mag v < 256 ^ w / 2
 

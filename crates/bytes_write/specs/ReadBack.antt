@@ -22,7 +22,8 @@ unsigned-back zero v rest h = omega arith
 unsigned-back (suc w) v rest h =
     let small : v < 256 * 256 ^ w = rw pow-succ' at h in
     let upper : v / 256 < 256 ^ w = omega arith in
-    rw (unsigned-start w (v % 256 ∷ (unsignedBytes w (v / 256) ++ rest)) 1, unsigned-back w (v / 256) rest upper) (omega arith)
+    rw (unsigned-start w (v % 256 ∷ (unsignedBytes w (v / 256) ++ rest)) 1, unsigned-back w (v / 256) rest upper)
+    (omega arith)
 
 -- a signed number of w bytes; `mag z` is n for n and for −(n + 1)
 pub signed-back : (w : ℕ) (z : ℤ) (rest : List ℕ) → mag z < 256 ^ w / 2 → signedAt w (signedBytes w z ++ rest) 0 ≡ z
@@ -38,9 +39,11 @@ pub record From (r : List ℕ) (a : ℕ) (parts : List (List ℕ)) : Type 0 wher
   pub is : drop a r ≡ flatten parts
 
 -- past the first part are the others
-pub after : {r bytes : List ℕ} {a w : ℕ} {parts : List (List ℕ)} → From r a (bytes ∷ parts) → length bytes ≡ w → From r (a + w) parts
+pub after : {r bytes : List ℕ} {a w : ℕ} {parts : List (List ℕ)}
+    → From r a (bytes ∷ parts) → length bytes ≡ w → From r (a + w) parts
 unfolding flatten
-after {r} {bytes} {a} {w} {parts} f l = record { is = sym (drop-drop w a r) ∙ ap (drop w) (f .is) ∙ drop-at bytes (flatten parts) w l }
+after {r} {bytes} {a} {w} {parts} f l =
+    record { is = sym (drop-drop w a r) ∙ ap (drop w) (f .is) ∙ drop-at bytes (flatten parts) w l }
 
 -- a number at place a is read from there
 module _ {r : List ℕ} {a : ℕ} {parts : List (List ℕ)} (w : ℕ) where
@@ -54,11 +57,13 @@ module _ {r : List ℕ} {a : ℕ} {parts : List (List ℕ)} (w : ℕ) where
 
 -- all of the figures at place a, of w bytes each, are read ..
 figures-from : {r : List ℕ} {a : ℕ} {parts : List (List ℕ)} (w : ℕ) (zs : List ℤ) → From r a (fields w zs ∷ parts)
-    → ((i : ℕ) → i < length zs → mag (at zs i) < 256 ^ w / 2) → tabulate (length zs) (λ i. signedAt w r (a + w * i)) ≡ zs
+    → ((i : ℕ) → i < length zs → mag (at zs i) < 256 ^ w / 2)
+    → tabulate (length zs) (λ i. signedAt w r (a + w * i)) ≡ zs
 unfolding flatten tabulate fields
 figures-from w [] f h = refl
 figures-from {r} {a} {parts} w (z ∷ zs) f h =
-    let first : From r a (signedBytes w z ∷ fields w zs ∷ parts) = record { is = f .is ∙ append-assoc (signedBytes w z) (fields w zs) (flatten parts) } in
+    let first : From r a (signedBytes w z ∷ fields w zs ∷ parts) =
+    record { is = f .is ∙ append-assoc (signedBytes w z) (fields w zs) (flatten parts) } in
     let here : a + w * 0 ≡ a = rw mul-zero (omega arith) in
     let next : (i : ℕ) → a + w * suc i ≡ a + w + w * i = λ i. rw mul-suc (omega arith) in
     rw (here, signed-read w z first (h 0 (omega arith)))
@@ -67,6 +72,7 @@ figures-from {r} {a} {parts} w (z ∷ zs) f h =
     ∙ figures-from w zs (after first (length-signed w z)) (λ i l. h (suc i) (suc-le-suc l))))
 
 -- .. by their number
-pub figures-read : {r : List ℕ} {a n : ℕ} {parts : List (List ℕ)} (w : ℕ) (zs : List ℤ) → From r a (fields w zs ∷ parts) → length zs ≡ n
+pub figures-read : {r : List ℕ} {a n : ℕ} {parts : List (List ℕ)} (w : ℕ) (zs : List ℤ)
+    → From r a (fields w zs ∷ parts) → length zs ≡ n
     → ((i : ℕ) → i < n → mag (at zs i) < 256 ^ w / 2) → tabulate n (λ i. signedAt w r (a + w * i)) ≡ zs
 figures-read w zs f l h = rw (← l) (figures-from w zs f (rw l h))

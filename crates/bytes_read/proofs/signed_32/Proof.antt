@@ -1,5 +1,4 @@
 -- A signed number of 4 bytes fits 32 bits.
-use mathlib.Core.Path.{_∙_}
 use mir.Syntax.{w32, w64}
 use mir.Val.{SFits}
 use mir.Facts.{toZ-ofZ}

@@ -1,12 +1,13 @@
 -- A plan in a head and arrays, and what writing its record asks.
 use mathlib.Core.List.{List, _++_}
-use Prim.Native.Nat.{ℕ, _*_, _≤_}
+use Prim.Native.Nat.{ℕ, _≤_}
 use lib.IntN.{ℤ}
 use lib.ListN.{length}
 use Rattle.rules.specs.Notation.{tabulate, at}
 use Rattle.rules.specs.Bytes.{unsignedBytes, signedBytes}
 use Rattle.rules.specs.Run.{Plan}
 use Rattle.rules.specs.Record.{recordLength}
+use Rattle.out_layout.specs.Sizes.{Sizes}
 use Rattle.out_record.specs.declared.Head.{Head}
 
 -- the plan: n sums, m multipliers and m residual totals, at the first places of their arrays
@@ -31,13 +32,7 @@ headBytes head =
     ++ signedBytes 8 (head .low)
     ++ signedBytes 8 (head .gap)
 
--- the first `count` figures ask that they are there, and room for them in w bytes each
-pub record FiguresAsked (w count : ℕ) (figures : List ℤ) (d : List ℕ) : Type 0 where
-  pub there : count ≤ length figures
-  pub room : w * count ≤ length d
-
--- the record asks that the arrays have places for all figures, and room
-pub record RecordAsked (head : Head) (d : List ℕ) : Type 0 where
-  pub materials : head .materials ≤ 32
-  pub limits : head .limits ≤ 16
+-- the arrays have places for all figures, and the buffer has room for the record
+pub record RecordRoom (head : Head) (d : List ℕ) : Type 0 where
+  pub sizes : Sizes (head .materials) (head .limits)
   pub room : recordLength (head .materials) (head .limits) ≤ length d

@@ -1,8 +1,8 @@
--- `listing::number_of` meets its contract: one case for each cause.
+-- One case for each cause.
 use borrow.Author.Needs.{needs}
 use Rattle.rules.specs.Refusals.{numberOf}
-use Rattle.out_listing.proofs.number_of.Statement.{statement}
-use Rattle.out_listing.proofs.number_of.Tie as tie
+use Rattle.out_refusals.proofs.number_of.Statement.{statement}
+use Rattle.out_refusals.proofs.number_of.Tie as tie
 
 pub number-of-spec : {M : Type 1} → statement M
 unfolding numberOf

@@ -1,5 +1,4 @@
 -- Each turn writes one figure of 32 bits, in 4 bytes, after those before it.
-use mathlib.Core.Path.{_≡_, refl}
 use Prim.Native.Nat.{_-_}
 use native.Mathlib.Omega.{arith}
 use lib.IntN.{ℤ}
@@ -7,22 +6,17 @@ use mir.Syntax.{w32, w64}
 use mir.Val.{SFits}
 use mir.Facts.{toZ-ofZ}
 use borrow.Author.Needs.{needs}
-use Rattle.rules.specs.Notation.{tabulate, at}
-use Rattle.rules.specs.Record.{fields}
-use Rattle.bytes_write.specs.Written.{written-none}
-use Rattle.out_record.proofs.Figures.{Turn, next}
-use Rattle.out_record.proofs.put_32.Statement.{statement}
-use Rattle.out_record.proofs.put_32.Tie as tie
+use Rattle.proof_integer.specs.Range.{wider}
+use Rattle.rules.specs.Notation.{at}
+use Rattle.out_fields.proofs.Figures.{Turn, first, room, next, last}
+use Rattle.out_fields.proofs.put_32.Statement.{statement}
+use Rattle.out_fields.proofs.put_32.Tie as tie
 
 abbrev Inv-loop : tie.InvT-loop
 Inv-loop d₀ figures count i₀ d i = Turn 4 count figures d₀ d i
 
 abbrev μ-loop : tie.MeasureT-loop
 μ-loop d₀ figures count i₀ d i = count - i
-
-loop-holds : tie.Need-loop-holds Inv-loop μ-loop
-unfolding fields tabulate
-loop-holds c = record { within = omega arith; long = refl; is = written-none _ }
 
 -- figure i fits its 32 bits, and so 64
 module _ (c : tie.After-put-signed-arg2 Inv-loop μ-loop) where
@@ -36,28 +30,21 @@ module _ (c : tie.After-put-signed-arg2 Inv-loop μ-loop) where
   narrow = record { sfits = c .put-signed-arg2 .given }
 
   wide : SFits w64 figure
-  wide = record { sfits = omega (arith, c .put-signed-arg2 .given) }
+  wide = wider tt narrow
 
 cast-put-signed : tie.Need-cast-put-signed Inv-loop μ-loop
 cast-put-signed c = rw (toZ-ofZ (narrow c)) (wide c)
 
 put-signed-requires : tie.Need-put-signed-requires Inv-loop μ-loop
-put-signed-requires c κs = record {
-  room = search needs;
-  narrow = omega arith;
-  small = rw (toZ-ofZ (narrow c), toZ-ofZ (wide c)) (omega (arith, narrow c .sfits));
-}
+put-signed-requires c κs =
+    rw (toZ-ofZ (narrow c), toZ-ofZ (wide c))
+    (room (turn c .before .before .pre) (turn c .loop .inv) (omega arith) (omega arith) (narrow c .sfits))
 
 loop-again : tie.Need-loop-again Inv-loop μ-loop
 loop-again c =
     let call = c .before .before in
-    next (call .put-signed .last .0) (turn (call .before) .loop .inv) (omega arith) (c .before .d .given .1)
-    (simp (toZ-ofZ (narrow (call .before)), toZ-ofZ (wide (call .before))) at (call .put-signed .ensures))
-
-returns : tie.Need-returns Inv-loop μ-loop
-returns c =
-    let e : c .before .loop .i ≡ c .before .before .before .args .count = omega arith in
-    rw e at (c .before .loop .inv .is)
+    let wrote = simp (toZ-ofZ (narrow (call .before)), toZ-ofZ (wide (call .before))) at (call .put-signed .ensures) in
+    next (turn (call .before) .loop .inv) (omega arith) wrote (c .before .d .given)
 
 pub put-32-spec : {M : Type 1} → statement M
 put-32-spec =
@@ -65,10 +52,7 @@ put-32-spec =
     (tie.spec
     Inv-loop
     μ-loop
-    loop-holds
-    (search needs)
-    (search needs)
-    (search needs)
+    (λ c. first)
     (search needs)
     (search needs)
     (search needs)
@@ -77,5 +61,5 @@ put-32-spec =
     (search needs)
     (search needs)
     loop-again
-    (search needs)
-    returns)
+    (λ c. c .before .loop .inv .long)
+    (λ c. last (c .before .loop .inv) (omega arith)))
