@@ -6,7 +6,7 @@ use native.Mathlib.Omega.{arith}
 use lib.ListN.{length, drop, drop-of-length-le}
 use lib.Seq.{drop-cons}
 use borrow.Author.Needs.{needs}
-use Rattle.out_text.specs.Laws.{length-kept}
+use Rattle.out_text.specs.Growing.{length-kept}
 use Rattle.out_text.proofs.Left.{Left, left-next, left-none}
 use Rattle.out_text.proofs.put_bytes.Statement.{statement}
 use Rattle.out_text.proofs.put_bytes.Tie as tie

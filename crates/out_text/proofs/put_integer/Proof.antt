@@ -14,7 +14,7 @@ use mir.Val.{SFits, toZ, ofZ}
 use mir.Facts.{toZ-ofZ, toZ-pos}
 use Rattle.proof_integer.specs.Range.{below-zero}
 use Rattle.rules.specs.Listing.{text, decimal}
-use Rattle.out_text.specs.Laws.{then}
+use Rattle.out_text.specs.Growing.{then}
 use Rattle.out_text.proofs.put_integer.Statement.{statement}
 use Rattle.out_text.proofs.put_integer.Tie as tie
 

@@ -6,7 +6,8 @@ use native.Mathlib.Omega.{arith}
 use borrow.Author.Needs.{needs}
 use lib.IntN.{pos}
 use Rattle.rules.specs.Listing.{decimal}
-use Rattle.out_text.specs.Laws.{length-kept, length-decimal-pos}
+use Rattle.out_text.specs.Growing.{length-kept}
+use Rattle.out_text.specs.DecimalLength.{length-decimal-pos}
 use Rattle.out_text.proofs.Digits.{cut, cut-decimal}
 use Rattle.out_text.proofs.Left.{Left, left-next, left-none}
 use Rattle.out_text.proofs.put_number.Statement.{statement}

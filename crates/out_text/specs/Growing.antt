@@ -1,19 +1,15 @@
--- Laws of a text that grows, and how long a number is in decimal.
-use Prim.Native.Nat.{ℕ, zero, suc, _+_, _/_, _^_, _<_, _≤_}
+-- Laws of a text that grows.
+use Prim.Native.Nat.{ℕ, _+_, _<_, _≤_}
 use mathlib.Core.Path.{_≡_, refl, sym, ap, _∙_, subst}
 use mathlib.Core.Bool.{true, false, cond}
 use mathlib.Core.List.{List, [], _∷_, _++_, append-nil}
-use native.Mathlib.Nat.{add-zero, zero-add, add-suc, suc-add, pow-suc, div-lt-iff-lt-mul}
+use native.Mathlib.Nat.{add-zero, zero-add, add-suc, suc-add}
 use native.Mathlib.Numerals.{add-one}
 use native.Mathlib.Omega.{arith}
 use lib.ListN.{length, drop, set, length-append, length-set}
 use lib.Seq.{set-append-seam, append-snoc}
 use lib.Dec.{ltb}
-use lib.IntN.{ℤ, pos, negsuc}
-use mir.Syntax.{w64}
-use mir.Val.{SFits}
 use borrow.Author.Tests.{lt-ltb}
-use Rattle.rules.specs.Listing.{text, digits, decimal}
 use Rattle.out_text.specs.Text.{Text, put, puts, Puts}
 
 -- ---- one call after another
@@ -86,31 +82,3 @@ pub whole-put : {t d d' : List ℕ} {r : ℕ} → Puts t d 0 d' r → length t �
 whole-put {t} {d} p h =
     let e = p .is ∙ whole t d h in
     (ap (λ (t : Text). t .bytes) e, ap (λ (t : Text). t .end) e)
-
--- ---- how long a number is in decimal
-
--- a number below 10^r has at most r digits
-length-digits : (r d v : ℕ) → v < 10 ^ r → length (digits d v) ≤ r
-unfolding digits
-length-digits r zero v h = omega arith
-length-digits r (suc d) zero h = omega arith
-length-digits zero (suc d) (suc v) h = absurd (omega arith)
-length-digits (suc r) (suc d) (suc v) h =
-    let shorter = length-digits r d (suc v / 10) (div-lt-iff-lt-mul (omega arith) .1 (rw pow-suc at h)) in
-    simp length-append (omega arith)
-
--- a number below 10^r is at most r bytes in decimal; 0 is one byte
-pub length-decimal-below : (r v : ℕ) → 0 < r → v < 10 ^ r → length (decimal (pos v)) ≤ r
-unfolding decimal text
-length-decimal-below r zero s h = omega arith
-length-decimal-below r (suc v) s h = length-digits r (suc v) (suc v) h
-
--- a number of 64 bits is at most 20 bytes in decimal
-pub length-decimal-pos : (v : ℕ) → v < 2 ^ 64 → length (decimal (pos v)) ≤ 20
-length-decimal-pos v h = length-decimal-below 20 v (omega arith) (omega arith)
-
--- and so is a signed one: its sign, and 19 digits at most
-pub length-decimal : (z : ℤ) → SFits w64 z → length (decimal z) ≤ 20
-unfolding decimal text
-length-decimal (pos v) f = length-decimal-pos v (omega (arith, f .sfits))
-length-decimal (negsuc v) f = simp length-append (omega (arith, length-digits 19 (suc v) (suc v) (omega (arith, f .sfits))))
