@@ -1,10 +1,10 @@
 -- The word, the numbers and the newline, one after the other.
 use borrow.Author.Needs.{needs}
 use Rattle.rules.specs.Listing.{text}
-use Rattle.out_text.specs.Laws.{then}
-use Rattle.out_listing.specs.Parts.{lineOf}
-use Rattle.out_listing.proofs.put_line.Statement.{statement}
-use Rattle.out_listing.proofs.put_line.Tie as tie
+use Rattle.out_text.specs.Growing.{then}
+use Rattle.out_lines.specs.Lines.{lineOf}
+use Rattle.out_lines.proofs.put_line.Statement.{statement}
+use Rattle.out_lines.proofs.put_line.Tie as tie
 
 returns : tie.Need-returns
 unfolding lineOf text

@@ -5,17 +5,17 @@ use borrow.Author.Needs.{needs}
 use mir.Syntax.{w64}
 use mir.Val.{SFits}
 use mir.Facts.{toZ-ofZ}
-use Rattle.out_text.specs.Laws.{puts-as}
-use Rattle.out_listing.specs.Parts.{lineOf}
-use Rattle.out_listing.proofs.put_value.Statement.{statement}
-use Rattle.out_listing.proofs.put_value.Tie as tie
+use Rattle.out_text.specs.Growing.{puts-as}
+use Rattle.out_lines.specs.Lines.{lineOf}
+use Rattle.out_rows.proofs.put_value.Statement.{statement}
+use Rattle.out_rows.proofs.put_value.Tie as tie
 
 returns : tie.Need-returns
 returns c =
     let called = c .before .before in
     let figure-at = called .before .before .before in
     let start = figure-at .before .before .before .before in
-    let figure = figure-at .signed-64 in
+    let figure = figure-at .signed-at in
     let fits : SFits w64 (figure .result) = record { sfits = figure .ok } in
     puts-as (λ k. lineOf (start .args .word .now) ((toZ-ofZ fits ∙ figure .ensures) k ∷ [])) (called .put-line .ensures)
 

@@ -11,10 +11,10 @@ use lib.ListN.{length, take, getD}
 use lib.Seq.{take-all}
 use Rattle.rules.specs.Listing.{spaced}
 use Rattle.out_text.specs.Text.{Puts}
-use Rattle.out_text.specs.Laws.{puts-none, puts-as, then, length-kept}
-use Rattle.out_listing.specs.Laws.{spaced-next}
-use Rattle.out_listing.proofs.put_figures.Statement.{statement}
-use Rattle.out_listing.proofs.put_figures.Tie as tie
+use Rattle.out_text.specs.Growing.{puts-none, puts-as, then, length-kept}
+use Rattle.out_lines.specs.Lines.{spaced-next}
+use Rattle.out_lines.proofs.put_figures.Statement.{statement}
+use Rattle.out_lines.proofs.put_figures.Tie as tie
 
 abbrev Inv-loop : tie.InvT-loop
 Inv-loop d₀ at figures end₀ i₀ d end i = (i ≤ length figures) × Puts (spaced (take i figures)) d₀ at d end

@@ -1,9 +1,10 @@
 -- A space, and then the number.
 use borrow.Author.Needs.{needs}
 use Rattle.rules.specs.Listing.{text}
-use Rattle.out_text.specs.Laws.{then, length-decimal-pos}
-use Rattle.out_listing.proofs.put_size.Statement.{statement}
-use Rattle.out_listing.proofs.put_size.Tie as tie
+use Rattle.out_text.specs.Growing.{then}
+use Rattle.out_text.specs.DecimalLength.{length-decimal-pos}
+use Rattle.out_lines.proofs.put_size.Statement.{statement}
+use Rattle.out_lines.proofs.put_size.Tie as tie
 
 returns : tie.Need-returns
 unfolding text

@@ -2,9 +2,9 @@
 use borrow.Author.Needs.{needs}
 use mir.Facts.{toZ-ofZ}
 use Rattle.rules.specs.Listing.{text}
-use Rattle.out_text.specs.Laws.{then}
-use Rattle.out_listing.proofs.put_figure.Statement.{statement}
-use Rattle.out_listing.proofs.put_figure.Tie as tie
+use Rattle.out_text.specs.Growing.{then}
+use Rattle.out_lines.proofs.put_figure.Statement.{statement}
+use Rattle.out_lines.proofs.put_figure.Tie as tie
 
 returns : tie.Need-returns
 unfolding text

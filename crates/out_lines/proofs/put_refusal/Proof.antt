@@ -3,11 +3,11 @@ use mathlib.Core.Path.{_≡_, sym, ap, _∙_}
 use borrow.Author.Needs.{needs}
 use Rattle.rules.specs.Refusals.{numbered}
 use Rattle.rules.specs.Listing.{text, refusalText}
-use Rattle.out_text.specs.Laws.{puts-as, then}
-use Rattle.out_listing.specs.Laws.{refusal-line}
-use Rattle.out_listing.specs.TextLength.{length-refusal-text}
-use Rattle.out_listing.proofs.put_refusal.Statement.{statement}
-use Rattle.out_listing.proofs.put_refusal.Tie as tie
+use Rattle.out_text.specs.Growing.{puts-as, then}
+use Rattle.out_lines.specs.Lines.{refusal-line}
+use Rattle.out_lines.specs.LineLength.{length-refusal-text}
+use Rattle.out_lines.proofs.put_refusal.Statement.{statement}
+use Rattle.out_lines.proofs.put_refusal.Tie as tie
 
 returns : tie.Need-returns
 unfolding numbered text
