@@ -1,9 +1,11 @@
 -- The listing of an answer and its record. What is found where:
---   Parts        the parts of a listing, out of the bytes of a record
---   Laws         how the parts make up a text
---   TextLength   how long a text is at most
---   Held         when bytes hold a record, and the text then
-pub mod Parts
-pub mod Laws
+--   RecordText        the text of the plan that a whole record holds, out of its bytes
+--   TextLength        how long that text is at most
+--   HoldsRecord       when bytes hold a record, and the text then
+--   WholeText         a text and the lent bytes that take it
+--   ListingOfRecord   the text of a sheet's answer and record is the listing of the sheet
+pub mod RecordText
 pub mod TextLength
-pub mod Held
+pub mod HoldsRecord
+pub mod WholeText
+pub mod ListingOfRecord

@@ -3,7 +3,7 @@ use mathlib.Core.Path.{sym, ap}
 use borrow.Author.Needs.{needs}
 use Rattle.rules.specs.Answers.{outcome}
 use Rattle.rules.specs.Listing.{textFrom}
-use Rattle.out_listing.specs.Laws.{begins-as}
+use Rattle.out_lines.specs.Lines.{begins-as}
 use Rattle.out_listing.proofs.put_answer.Statement.{statement}
 use Rattle.out_listing.proofs.put_answer.Tie as tie
 

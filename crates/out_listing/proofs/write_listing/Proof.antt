@@ -8,8 +8,8 @@ use borrow.Author.Needs.{needs}
 use lib.ListN.{length, take}
 use Rattle.rules.specs.Answers.{outcome}
 use Rattle.rules.specs.Listing.{textFrom}
-use Rattle.out_text.specs.Laws.{puts-as}
-use Rattle.out_listing.specs.Laws.{begun, listed, not-listed}
+use Rattle.out_text.specs.Growing.{puts-as}
+use Rattle.out_listing.specs.WholeText.{begun, listed, not-listed}
 use Rattle.out_listing.proofs.write_listing.Statement.{statement}
 use Rattle.out_listing.proofs.write_listing.Tie as tie
 
