@@ -1,4 +1,5 @@
-// Lines of the figures of a record. Each function puts lines at the end of a text, place `at`, and answers the place after them.
+// Lines of the figures of a record.
+// Each function puts lines at the end of a text, place `at`, and answers the place after them.
 ghost use mathlib.Core.List.{[], _∷_};
 ghost use Prim.Native.Nat.{suc};
 ghost use Rattle.rules.specs.Bytes.{signedAt};

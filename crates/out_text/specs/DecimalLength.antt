@@ -32,4 +32,6 @@ length-decimal-pos v h = length-decimal-below 20 v (omega arith) (omega arith)
 pub length-decimal : (z : ℤ) → SFits w64 z → length (decimal z) ≤ 20
 unfolding decimal text
 length-decimal (pos v) f = length-decimal-pos v (omega (arith, f .sfits))
-length-decimal (negsuc v) f = simp length-append (omega (arith, length-digits 19 (suc v) (suc v) (omega (arith, f .sfits))))
+length-decimal (negsuc v) f =
+    let few = length-digits 19 (suc v) (suc v) (omega (arith, f .sfits)) in
+    simp length-append (omega arith)

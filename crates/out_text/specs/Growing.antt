@@ -26,7 +26,8 @@ unfolding puts
 puts-none = record { is = refl }
 
 -- two calls, the second where the first ended, put the bytes of both
-pub then : {xs ys d d' d'' : List ℕ} {a a' a'' : ℕ} → Puts xs d a d' a' → Puts ys d' a' d'' a'' → Puts (xs ++ ys) d a d'' a''
+pub then : {xs ys d d' d'' : List ℕ} {a a' a'' : ℕ}
+    → Puts xs d a d' a' → Puts ys d' a' d'' a'' → Puts (xs ++ ys) d a d'' a''
 then {xs} {ys} first second = record { is = second .is ∙ ap (puts ys) (first .is) ∙ sym (puts-append xs ys _) }
 
 -- the same bytes, named in another way
@@ -38,7 +39,8 @@ puts-as {d = d} {d' = d'} {a = a} {a' = a'} e p = subst (λ bs. Puts bs d a d' a
 length-put : (b : ℕ) (t : Text) → length (put b t .bytes) ≡ length (t .bytes)
 unfolding put
 length-put b t =
-    elim (ltb (t .end) (length (t .bytes))) as (λ room. length (cond room (record { bytes = set (t .bytes) (t .end) b; end = t .end + 1 }) t .bytes) ≡ length (t .bytes)) [
+    let longer : Text = record { bytes = set (t .bytes) (t .end) b; end = t .end + 1 } in
+    elim (ltb (t .end) (length (t .bytes))) as (λ room. length (cond room longer t .bytes) ≡ length (t .bytes)) [
       | true ↦ length-set (t .bytes) (t .end) b
       | false ↦ refl
     ]
@@ -57,7 +59,8 @@ length-kept {bs} p = ap (λ (t : Text). length (t .bytes)) (p .is) ∙ length-pu
 
 -- a byte put after `front` takes the place of x
 put-after : (front : List ℕ) (b x : ℕ) (d : List ℕ)
-    → put b (record { bytes = front ++ x ∷ d; end = length front }) ≡ record { bytes = front ++ (b ∷ []) ++ d; end = length (front ++ (b ∷ [])) }
+    → put b (record { bytes = front ++ x ∷ d; end = length front })
+    ≡ record { bytes = front ++ (b ∷ []) ++ d; end = length (front ++ (b ∷ [])) }
 unfolding put
 put-after front b x d =
     let room : length front < length front + length (x ∷ d) = omega arith in
@@ -65,12 +68,15 @@ put-after front b x d =
 
 -- a text put after `front` takes the place of the first bytes of d, where it fits into d
 pub whole-after : (front t d : List ℕ) → length t ≤ length d
-    → puts t (record { bytes = front ++ d; end = length front }) ≡ record { bytes = front ++ t ++ drop (length t) d; end = length front + length t }
+    → puts t (record { bytes = front ++ d; end = length front })
+    ≡ record { bytes = front ++ t ++ drop (length t) d; end = length front + length t }
 unfolding puts
 whole-after front [] d h = simp (append-nil, add-zero)
 whole-after front (b ∷ t) [] h = absurd (omega arith)
 whole-after front (b ∷ t) (x ∷ d) h =
-    ap (puts t) (put-after front b x d) ∙ whole-after (front ++ (b ∷ [])) t d (omega arith) ∙ simp (append-snoc, length-append, add-one, suc-add, add-suc)
+    ap (puts t) (put-after front b x d)
+    ∙ whole-after (front ++ (b ∷ [])) t d (omega arith)
+    ∙ simp (append-snoc, length-append, add-one, suc-add, add-suc)
 
 -- a text put at the start of d takes the place of the first bytes of d, where it fits into d
 pub whole : (t d : List ℕ) → length t ≤ length d
@@ -78,7 +84,8 @@ pub whole : (t d : List ℕ) → length t ≤ length d
 whole t d h = whole-after [] t d h ∙ simp zero-add
 
 -- what calls leave that began at place 0, where what they put fits
-pub whole-put : {t d d' : List ℕ} {r : ℕ} → Puts t d 0 d' r → length t ≤ length d → (d' ≡ t ++ drop (length t) d) × (r ≡ length t)
+pub whole-put : {t d d' : List ℕ} {r : ℕ} → Puts t d 0 d' r → length t ≤ length d
+    → (d' ≡ t ++ drop (length t) d) × (r ≡ length t)
 whole-put {t} {d} p h =
     let e = p .is ∙ whole t d h in
     (ap (λ (t : Text). t .bytes) e, ap (λ (t : Text). t .end) e)

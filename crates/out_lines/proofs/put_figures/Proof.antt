@@ -34,7 +34,8 @@ loop-again c =
     let i = turn .loop .i in
     let fits : SFits w64 (getD figures i (pos 0)) = record { sfits = called .before .put-figure-arg2 .given } in (
       omega arith,
-      puts-as (sym (spaced-next figures i (pos 0) (omega arith))) (then (turn .loop .inv .1) (simp (toZ-ofZ fits) at (called .put-figure .ensures))),
+      puts-as (sym (spaced-next figures i (pos 0) (omega arith)))
+          (then (turn .loop .inv .1) (simp (toZ-ofZ fits) at (called .put-figure .ensures))),
     )
 
 returns : tie.Need-returns Inv-loop μ-loop

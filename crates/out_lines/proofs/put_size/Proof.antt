@@ -12,7 +12,8 @@ returns c =
     let number = c .before .before in
     let space = number .before .before .before .before in
     let start = space .before .before .before in
-    (then (space .put-byte .ensures) (number .put-number .ensures), length-decimal-pos (start .args .v) (start .fits .v .fits))
+    let put = then (space .put-byte .ensures) (number .put-number .ensures) in
+    (put, length-decimal-pos (start .args .v) (start .fits .v .fits))
 
 pub put-size-spec : {M : Type 1} → statement M
 put-size-spec = tie.close (tie.spec (λ c κs. search needs) (λ c κs. search needs) (λ c. search needs) returns)

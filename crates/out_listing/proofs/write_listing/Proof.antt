@@ -40,7 +40,8 @@ returns-2 : tie.Need-returns-2
 returns-2 c =
     let copied = c .before .before in
     let called = copied .before .before .before .before .before .before in (
-      listed (puts-as (put called .0) (simp sub-zero at (copied .put-bytes .ensures))) (rw (sym (put called .1)) (omega arith)),
+      listed (puts-as (put called .0) (simp sub-zero at (copied .put-bytes .ensures)))
+          (rw (sym (put called .1)) (omega arith)),
       called .put-answer .ensures .short,
     )
 

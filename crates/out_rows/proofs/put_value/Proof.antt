@@ -20,4 +20,11 @@ returns c =
     puts-as (λ k. lineOf (start .args .word .now) ((toZ-ofZ fits ∙ figure .ensures) k ∷ [])) (called .put-line .ensures)
 
 pub put-value-spec : {M : Type 1} → statement M
-put-value-spec = tie.close (tie.spec (λ c κs. search needs) (λ c. search needs) (λ c κs. search needs) (λ c. search needs) returns)
+put-value-spec =
+    tie.close
+    (tie.spec
+    (λ c κs. search needs)
+    (λ c. search needs)
+    (λ c κs. search needs)
+    (λ c. search needs)
+    returns)

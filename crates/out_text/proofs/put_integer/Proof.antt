@@ -65,7 +65,8 @@ returns c =
     let number = c .before .before in
     let sign = number .before .before .before .before in
     let n = sign .before .before in
-    rw (below-decimal (v n) (negative n)) at (then (sign .put-byte .ensures) (simp (less-bits n) at (number .put-number .ensures)))
+    let digits-put = simp (less-bits n) at (number .put-number .ensures) in
+    rw (below-decimal (v n) (negative n)) at (then (sign .put-byte .ensures) digits-put)
 
 -- ---- from 0 on
 module _ (c : tie.Else1) where

@@ -33,7 +33,8 @@ loop-again c =
     let called = c .before .before in
     let turn = called .before .before .before .before in
     let e : turn .loop .left ≡ suc (turn .loop .left - 1) = omega arith in
-    (omega arith, left-next (rw e at (turn .loop .inv .1)) (rw (called .before .power .ensures) at (called .put-byte .ensures)))
+    let digit-put = rw (called .before .power .ensures) at (called .put-byte .ensures) in
+    (omega arith, left-next (rw e at (turn .loop .inv .1)) digit-put)
 
 returns : tie.Need-returns Inv-loop μ-loop
 unfolding cut

@@ -1,15 +1,12 @@
 -- The lines of a plan, one kind after the other.
-use Prim.Native.Nat.{_+_, _*_, _≤_}
-use mathlib.Core.Path.{_≡_, _∙_}
-use native.Mathlib.Omega.{arith}
+use mathlib.Core.Path.{_∙_}
 use borrow.Author.Needs.{needs}
-use lib.ListN.{length}
-use Rattle.rules.specs.Record.{totalsAt, recordLength}
+use Rattle.rules.specs.Record.{recordLength}
 use Rattle.rules.specs.Listing.{text}
 use Rattle.out_text.specs.Growing.{puts-as, then}
-use Rattle.out_listing.specs.RecordText.{recordText, plan-text}
-use Rattle.out_listing.proofs.put_plan.Statement.{statement}
-use Rattle.out_listing.proofs.put_plan.Tie as tie
+use Rattle.out_plan.specs.RecordText.{recordText, plan-text}
+use Rattle.out_plan.proofs.put_plan.Statement.{statement}
+use Rattle.out_plan.proofs.put_plan.Tie as tie
 
 returns : tie.Need-returns
 unfolding recordText text
@@ -22,7 +19,8 @@ returns c =
     let placed = steps .before .before in
     let start = placed .before .before .before .before in
     let r = start .args .«record» .now in
-    let limits-put = rw (placed .before .multipliers-at .ensures, placed .totals-at .ensures) at (limits .put-limits .ensures) in
+    let limits-put =
+    rw (placed .before .multipliers-at .ensures, placed .totals-at .ensures) at (limits .put-limits .ensures) in
     let put = then (then (steps .put-steps .ensures) (materials .put-materials .ensures)) limits-put in
     puts-as
     ((λ k. recordText r (start .pre .materials k) (start .pre .limits k)) ∙ plan-text r)

@@ -2,10 +2,10 @@
 use mathlib.Core.Path.{sym}
 use native.Mathlib.Omega.{arith}
 use borrow.Author.Needs.{needs}
-use Rattle.out_listing.specs.RecordText.{WholeRecord}
-use Rattle.out_listing.specs.HoldsRecord.{many-materials, many-limits, cut-short, no-sums, no-text, record-text}
-use Rattle.out_listing.proofs.put_record.Statement.{statement}
-use Rattle.out_listing.proofs.put_record.Tie as tie
+use Rattle.out_plan.specs.RecordText.{WholeRecord}
+use Rattle.out_plan.specs.HoldsRecord.{many-materials, many-limits, cut-short, no-sums, no-text, record-text}
+use Rattle.out_plan.proofs.put_record.Statement.{statement}
+use Rattle.out_plan.proofs.put_record.Tie as tie
 
 returns : tie.Need-returns
 returns c =

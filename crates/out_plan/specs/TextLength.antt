@@ -16,7 +16,7 @@ use Rattle.rules.specs.Listing.{text, line, lines, planText}
 use Rattle.proof_magnitudes.specs.PlanFits.{PlanFits}
 use Rattle.out_record.specs.RecordedFits.{recorded-fits}
 use Rattle.out_lines.specs.LineLength.{Every, length-line, length-lines}
-use Rattle.out_listing.specs.RecordText.{WholeRecord}
+use Rattle.out_plan.specs.RecordText.{WholeRecord}
 
 -- a place or a count of steps
 small : {n : ℕ} → n < 65536 → SFits w64 (pos n)
@@ -34,7 +34,8 @@ module _ {p : Plan} (fits : PlanFits p) where
       length-lines 46 _ _
       (λ j l. length-line "mat" _ (small (lt-trans l (fits .materials)), (wider tt (fits .sum j l), tt)))
 
-  lim-lines : length (lines (p .limits) (λ i. line "lim" (pos i ∷ at (p .multipliers) i ∷ at (p .residualTotals) i ∷ [])))
+  lim-lines :
+      length (lines (p .limits) (λ i. line "lim" (pos i ∷ at (p .multipliers) i ∷ at (p .residualTotals) i ∷ [])))
       ≤ 67 * p .limits
   unfolding Every text
   lim-lines =

@@ -14,8 +14,8 @@ use Rattle.rules.specs.Listing.{planText}
 use Rattle.out_text.specs.Text.{Puts}
 use Rattle.out_text.specs.Growing.{puts-none}
 use Rattle.out_lines.specs.Lines.{Begins}
-use Rattle.out_listing.specs.RecordText.{WholeRecord}
-use Rattle.out_listing.specs.TextLength.{length-plan-text}
+use Rattle.out_plan.specs.RecordText.{WholeRecord}
+use Rattle.out_plan.specs.TextLength.{length-plan-text}
 
 module _ (r : List ℕ) where
   -- more materials than a sheet may have
@@ -43,8 +43,9 @@ module _ (r : List ℕ) where
   all-there : (n m : ℕ) → WholeRecord r n m → holdsRecord r ≡ true
   unfolding holdsRecord
   all-there n m s =
+      let whole = le-leb (recordLength n m) (length r) (s .whole) in
       rw (sym (s .materials), sym (s .limits))
-      (simp (le-leb n 32 (s .sizes .materials), le-leb m 16 (s .sizes .limits), le-leb (recordLength n m) (length r) (s .whole)))
+      (simp (le-leb n 32 (s .sizes .materials), le-leb m 16 (s .sizes .limits), whole))
 
   -- no text is put where the bytes hold no record
   pub no-text : {d : List ℕ} → holdsRecord r ≡ false → Begins (cond (holdsRecord r) (planText (recorded r)) []) d d 0
