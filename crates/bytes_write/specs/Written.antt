@@ -1,4 +1,4 @@
--- Bytes at the start of a lent buffer, and a part of the buffer lent on.
+-- Bytes written to a lent buffer, and a part of the buffer lent on.
 use mathlib.Core.Path.{_≡_, refl, sym, ap, _∙_}
 use mathlib.Core.List.{List, [], _++_, append-assoc, append-nil}
 use Prim.Native.Nat.{ℕ, _+_, _-_}
@@ -10,15 +10,46 @@ use lib.Seq.{drop-drop, take-at, drop-at, take-all}
 unfoldable pub written : List ℕ → List ℕ → List ℕ
 written bytes d = bytes ++ drop (length bytes) d
 
+-- the bytes from place a of d on, and all else of d as it was
+unfoldable pub writtenAt : ℕ → List ℕ → List ℕ → List ℕ
+writtenAt a bytes d = take a d ++ written bytes (drop a d)
+
 -- no byte is written
 pub written-none : (d : List ℕ) → d ≡ written [] d
 unfolding written
 written-none d = refl
 
 -- bytes after bytes: the later ones are at the start of the rest
-pub written-append : (front bytes d : List ℕ) → written (front ++ bytes) d ≡ front ++ written bytes (drop (length front) d)
+pub written-append : (front bytes d : List ℕ)
+    → written (front ++ bytes) d ≡ front ++ written bytes (drop (length front) d)
 unfolding written
 written-append front bytes d = simp (append-assoc, length-append, drop-drop)
+
+-- d is d₀ with `front` written, which has a bytes
+pub record Filled (d₀ front : List ℕ) (a : ℕ) (d : List ℕ) : Type 0 where
+  pub is : d ≡ written front d₀
+  pub long : length front ≡ a
+
+-- nothing is written
+pub unfilled : (d : List ℕ) → Filled d [] 0 d
+unfilled d = record { is = written-none d; long = refl }
+
+-- the place after `front`, named in another way
+pub filled-to : {d₀ front d : List ℕ} {a b : ℕ} → b ≡ a → Filled d₀ front a d → Filled d₀ front b d
+filled-to e f = record { is = f .is; long = f .long ∙ sym e }
+
+-- w bytes are written at the place after `front`: they follow it
+pub fill : {d₀ front d d' : List ℕ} {a w : ℕ} (bytes : List ℕ) → Filled d₀ front a d → length bytes ≡ w
+    → d' ≡ writtenAt a bytes d → Filled d₀ (front ++ bytes) (a + w) d'
+unfolding written writtenAt
+fill {d₀} {front} {d} {a = a} bytes f l h =
+    let rest = drop (length front) d₀ in
+    let head : take a d ≡ front = ap (take a) (f .is) ∙ take-at front rest a (f .long) in
+    let tail : drop a d ≡ rest = ap (drop a) (f .is) ∙ drop-at front rest a (f .long) in
+    record {
+      is = h ∙ simp (head, tail) (sym (written-append front bytes d₀));
+      long = rw (length-append, f .long, l);
+    }
 
 -- the part of d that `&mut d[a..]` lends
 abbrev pub lent : List ℕ → ℕ → List ℕ
@@ -28,22 +59,11 @@ lent d a = take (length d - a) (drop a d)
 abbrev pub returned : List ℕ → ℕ → List ℕ → List ℕ
 returned d a part = take a d ++ (part ++ drop (length d - a) (drop a d))
 
--- d is d₀ with `front` written, which has a bytes
-pub record Filled (d₀ front : List ℕ) (a : ℕ) (d : List ℕ) : Type 0 where
-  pub is : d ≡ written front d₀
-  pub long : length front ≡ a
-
--- the part after `front` was lent, and came back with w bytes written: they follow `front`
-pub extend : {d₀ front d part : List ℕ} {a w : ℕ} (bytes : List ℕ) → Filled d₀ front a d → length bytes ≡ w → part ≡ written bytes (lent d a)
-    → Filled d₀ (front ++ bytes) (a + w) (returned d a part)
-unfolding written
-extend {d₀} {front} {d} {part} {a} bytes f l h =
-    let head : take a d ≡ front = ap (take a) (f .is) ∙ take-at front (drop (length front) d₀) a (f .long) in
-    let rest : drop a d ≡ drop (length front) d₀ = ap (drop a) (f .is) ∙ drop-at front (drop (length front) d₀) a (f .long) in
+-- the part after `front` was lent, and came back with w bytes at its start: they follow `front`
+pub extend : {d₀ front d part : List ℕ} {a w : ℕ} (bytes : List ℕ) → Filled d₀ front a d → length bytes ≡ w
+    → part ≡ written bytes (lent d a) → Filled d₀ (front ++ bytes) (a + w) (returned d a part)
+unfolding writtenAt
+extend {d₀} {front} {d} {part} {a} {w} bytes f l h =
     let past : drop (length d - a) (drop a d) ≡ [] = drop-of-length-le (drop a d) (le-of-eq (length-drop a d)) in
     let all : lent d a ≡ drop a d = take-all (length d - a) (drop a d) (le-of-eq (length-drop a d)) in
-    let p : part ≡ written bytes (drop (length front) d₀) = h ∙ ap (written bytes) (all ∙ rest) in
-    record {
-      is = simp (head, past, p, append-nil) (sym (written-append front bytes d₀));
-      long = rw (length-append, f .long, l);
-    }
+    fill bytes f l (simp (past, append-nil, h, all))

@@ -1,18 +1,18 @@
 // Numbers into a lent buffer, little-endian.
 ghost use mathlib.Core.Path.{_≡_};
 ghost use Rattle.rules.specs.Bytes.{unsignedBytes, signedBytes};
-ghost use Rattle.bytes_write.specs.Written.{written};
+ghost use Rattle.bytes_write.specs.Written.{writtenAt};
 ghost use Rattle.bytes_write.specs.Number.{Room, SignedRoom, bits64};
 
-// The unsigned number v in the first `width` bytes of d.
-pub fn put_unsigned(d: &mut [u8], width: usize, v: u64)
-    requires { ⌜ Room width (now d) ⌝ }
-    ensures { λ _. ⌜ now (d .exit) ≡ written (unsignedBytes width v) (now (d .entry)) ⌝ }
+// The unsigned number v in the `width` bytes of d from place `at` on.
+pub fn put_unsigned(d: &mut [u8], at: usize, width: usize, v: u64)
+    requires { ⌜ Room at width (now d) ⌝ }
+    ensures { λ _. ⌜ now (d .exit) ≡ writtenAt at (unsignedBytes width v) (now (d .entry)) ⌝ }
 {
     let mut rest = v;
     let mut i: usize = 0;
     while i < width {
-        d[i] = (rest % 256) as u8;
+        d[at + i] = (rest % 256) as u8;
         rest = rest / 256;
         i += 1;
     }
@@ -29,10 +29,10 @@ fn bits(v: i64) -> u64
     }
 }
 
-// The signed number v in the first `width` bytes of d, in two's complement.
-pub fn put_signed(d: &mut [u8], width: usize, v: i64)
-    requires { ⌜ SignedRoom width v (now d) ⌝ }
-    ensures { λ _. ⌜ now (d .exit) ≡ written (signedBytes width v) (now (d .entry)) ⌝ }
+// The signed number v in the `width` bytes of d from place `at` on, in two's complement.
+pub fn put_signed(d: &mut [u8], at: usize, width: usize, v: i64)
+    requires { ⌜ SignedRoom at width v (now d) ⌝ }
+    ensures { λ _. ⌜ now (d .exit) ≡ writtenAt at (signedBytes width v) (now (d .entry)) ⌝ }
 {
-    put_unsigned(d, width, bits(v));
+    put_unsigned(d, at, width, bits(v));
 }

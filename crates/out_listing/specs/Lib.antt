@@ -1,9 +1,5 @@
 -- The listing of an answer and its record. What is found where:
---   Parts        the parts of a listing, out of the bytes of a record
---   Laws         how the parts make up a text
---   TextLength   how long a text is at most
---   Held         when bytes hold a record, and the text then
-pub mod Parts
-pub mod Laws
-pub mod TextLength
-pub mod Held
+--   WholeText         a text and the lent bytes that take it
+--   ListingOfRecord   the text of a sheet's answer and record is the listing of the sheet
+pub mod WholeText
+pub mod ListingOfRecord

@@ -1,11 +1,9 @@
--- The record of a plan whose figures stand in arrays. What is found where:
---   Lengths     how many bytes figures and the record have
---   Held        the plan that a head and arrays hold, and what writing its record asks
---   ReadBack    numbers and figures that were written are read back
---   PlanFits    the figures of a plan fit the bytes that a record has for them
---   RoundTrip   the plan that a record holds is the plan that was written
-pub mod Lengths
-pub mod Held
-pub mod ReadBack
-pub mod PlanFits
+-- The record of a plan whose figures stand in a head and arrays. What is found where:
+--   RecordLength   how many bytes the record has
+--   RecordParts    the plan that a head and arrays hold, and what writing its record asks
+--   RecordedFits   what is read out of any bytes fits a record
+--   RoundTrip      the plan that a record holds is the plan that was written
+pub mod RecordLength
+pub mod RecordParts
+pub mod RecordedFits
 pub mod RoundTrip

@@ -11,10 +11,12 @@ use Rattle.rules.specs.Notation.{tabulate}
 use Rattle.rules.specs.Bytes.{unsignedAt, signedAt, unsignedBytes, signedBytes}
 use Rattle.rules.specs.Run.{Plan}
 use Rattle.rules.specs.Record.{fields, recordOf, recordLength, recorded, holdsRecord}
-use Rattle.bytes_write.specs.Number.{length-unsigned, length-signed}
-use Rattle.out_record.specs.PlanFits.{PlanFits}
-use Rattle.out_record.specs.Lengths.{length-fields, length-record}
-use Rattle.out_record.specs.ReadBack.{From, after, unsigned-read, signed-read, figures-read}
+use Rattle.rules.specs.Record.{limitsAt, sumsAt, multipliersAt, totalsAt}
+use Rattle.proof_magnitudes.specs.PlanFits.{PlanFits}
+use Rattle.bytes_write.specs.Number.{length-unsigned, length-signed, length-fields}
+use Rattle.bytes_write.specs.ReadBack.{From, after, unsigned-read, signed-read, figures-read}
+use Rattle.out_layout.specs.Sizes.{Sizes}
+use Rattle.out_record.specs.RecordLength.{length-record}
 
 -- n figures have w × n bytes
 long : (w : ℕ) {n : ℕ} (zs : List ℤ) → length zs ≡ n → length (fields w zs) ≡ w * n
@@ -23,7 +25,8 @@ long w zs l = length-fields w zs ∙ ap (λ (n : ℕ). w * n) l
 -- the parts of a record, from its first byte on
 parts : (p : Plan) (rest : List ℕ)
     → From (recordOf p ++ rest) 0
-    (unsignedBytes 2 (p .materials) ∷ unsignedBytes 2 (p .limits) ∷ unsignedBytes 2 (p .steps) ∷ signedBytes 8 (p .low) ∷ signedBytes 8 (p .gap)
+    (unsignedBytes 2 (p .materials) ∷ unsignedBytes 2 (p .limits) ∷ unsignedBytes 2 (p .steps)
+    ∷ signedBytes 8 (p .low) ∷ signedBytes 8 (p .gap)
     ∷ fields 4 (p .sums) ∷ fields 4 (p .multipliers) ∷ fields 8 (p .residualTotals) ∷ rest ∷ [])
 unfolding flatten recordOf
 parts p rest = record { is = simp (append-assoc, append-nil) }
@@ -47,7 +50,8 @@ round-trip {p} fits rest =
     let low = signed-read 8 (p .low) low-at (fits .low .sfits) in
     let gap = signed-read 8 (p .gap) gap-at (fits .gap .sfits) in
     let sums = figures-read 4 (p .sums) sums-at (fits .sums-length) (λ j l. fits .sum j l .sfits) in
-    let multipliers = figures-read 4 (p .multipliers) multipliers-at (fits .multipliers-length) (λ i l. fits .multiplier i l .sfits) in
+    let multipliers =
+    figures-read 4 (p .multipliers) multipliers-at (fits .multipliers-length) (λ i l. fits .multiplier i l .sfits) in
     let totals = figures-read 8 (p .residualTotals) totals-at (fits .totals-length) (λ i l. fits .total i l .sfits) in
     λ i. record {
       materials = n i;
@@ -55,20 +59,27 @@ round-trip {p} fits rest =
       steps = k i;
       low = low i;
       gap = gap i;
-      sums = ((λ i. tabulate (n i) (λ j. signedAt 4 r (22 + 4 * j))) ∙ sums) i;
-      multipliers = ((λ i. tabulate (m i) (λ j. signedAt 4 r (22 + 4 * n i + 4 * j))) ∙ multipliers) i;
-      residualTotals = ((λ i. tabulate (m i) (λ j. signedAt 8 r (22 + 4 * n i + 4 * m i + 8 * j))) ∙ totals) i;
+      sums = ((λ i. tabulate (n i) (λ j. signedAt 4 r (sumsAt + 4 * j))) ∙ sums) i;
+      multipliers = ((λ i. tabulate (m i) (λ j. signedAt 4 r (multipliersAt (n i) + 4 * j))) ∙ multipliers) i;
+      residualTotals = ((λ i. tabulate (m i) (λ j. signedAt 8 r (totalsAt (n i) (m i) + 8 * j))) ∙ totals) i;
     }
 
 -- the whole record is there
-whole-record : {p : Plan} → PlanFits p → (rest : List ℕ) → recordLength (p .materials) (p .limits) ≤ length (recordOf p ++ rest)
+whole-record : {p : Plan} → PlanFits p → (rest : List ℕ)
+    → recordLength (p .materials) (p .limits) ≤ length (recordOf p ++ rest)
 whole-record {p} fits rest =
-    rw (length-append, length-record p (p .materials) (p .limits) (fits .sums-length) (fits .multipliers-length) (fits .totals-length)) (omega arith)
+    let n = p .materials in
+    let m = p .limits in
+    rw (length-append, length-record p n m (fits .sums-length) (fits .multipliers-length) (fits .totals-length))
+    (omega arith)
 
 -- bytes that begin with the record of a plan hold a record, where its sizes are at most the largest of a sheet
-pub holds-record : {p : Plan} → PlanFits p → p .materials ≤ 32 → p .limits ≤ 16 → (rest : List ℕ) → holdsRecord (recordOf p ++ rest) ≡ true
+pub holds-record : {p : Plan} → PlanFits p → Sizes (p .materials) (p .limits) → (rest : List ℕ)
+    → holdsRecord (recordOf p ++ rest) ≡ true
 unfolding recorded holdsRecord
-holds-record {p} fits narrow few rest =
-    let n : unsignedAt 2 (recordOf p ++ rest) 0 ≡ p .materials = λ i. round-trip fits rest i .materials in
-    let m : unsignedAt 2 (recordOf p ++ rest) 2 ≡ p .limits = λ i. round-trip fits rest i .limits in
-    rw (n, m, le-leb (p .materials) 32, le-leb (p .limits) 16, le-leb (recordLength (p .materials) (p .limits)) (length (recordOf p ++ rest)) (whole-record fits rest))
+holds-record {p} fits sizes rest =
+    let r = recordOf p ++ rest in
+    let n : unsignedAt 2 r 0 ≡ p .materials = λ i. round-trip fits rest i .materials in
+    let m : unsignedAt 2 r limitsAt ≡ p .limits = λ i. round-trip fits rest i .limits in
+    let whole = le-leb (recordLength (p .materials) (p .limits)) (length r) (whole-record fits rest) in
+    rw (n, m, le-leb (p .materials) 32 (sizes .materials), le-leb (p .limits) 16 (sizes .limits), whole)

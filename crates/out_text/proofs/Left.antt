@@ -9,7 +9,8 @@ pub record Left (all d₀ : List ℕ) (at : ℕ) (rest d : List ℕ) (end : ℕ)
   pub is : puts rest (record { bytes = d; end = end }) ≡ puts all (record { bytes = d₀; end = at })
 
 -- one byte is put, and is no longer left
-pub left-next : {all d₀ rest d d' : List ℕ} {at end end' b : ℕ} → Left all d₀ at (b ∷ rest) d end → Puts (b ∷ []) d end d' end' → Left all d₀ at rest d' end'
+pub left-next : {all d₀ rest d d' : List ℕ} {at end end' b : ℕ}
+    → Left all d₀ at (b ∷ rest) d end → Puts (b ∷ []) d end d' end' → Left all d₀ at rest d' end'
 unfolding puts
 left-next {rest = rest} l p = record { is = ap (puts rest) (p .is) ∙ l .is }
 

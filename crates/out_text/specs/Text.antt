@@ -19,6 +19,7 @@ unfoldable pub puts : List ℕ → Text → Text
 puts [] t = t
 puts (b ∷ bs) t = puts bs (put b t)
 
--- The function was lent `before` with the text's end at `at`, and left `after` with the end at `result`: it has put `bs`.
+-- The function was lent `before` with the text's end at `at`, and left `after` with the end at `result`:
+-- it has put `bs`.
 pub record Puts (bs before : List ℕ) (at : ℕ) (after : List ℕ) (result : ℕ) : Type 0 where
   pub is : record { bytes = after; end = result } ≡ puts bs (record { bytes = before; end = at })

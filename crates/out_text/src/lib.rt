@@ -1,5 +1,6 @@
-// A text that grows in lent bytes: words, and numbers in decimal. Each public function puts something at the text's end, place `at`, and
-// answers the place after it. What does not fit into the bytes is left out.
+// A text that grows in lent bytes: words, and numbers in decimal.
+// Each public function puts something at the text's end, place `at`, and answers the place after it.
+// What does not fit into the bytes is left out.
 ghost use mathlib.Core.Path.{_≡_};
 ghost use Prim.Native.Nat.{_<_, _^_};
 ghost use mathlib.Core.List.{[], _∷_};

@@ -6,6 +6,7 @@
 --   Opening         low before any step
 --   Magnitudes      the figures of a step
 --   RunMagnitudes   the figures of a run: `magnitudes`, by a sheet's bytes, and `run-magnitudes`, by its figures
+--   PlanFits        the figures of a plan fit the bytes that a record has for them
 -- Of a step, M are the multipliers that enter it (times D), and x its amounts. A point y/d has the whole amounts y over the divisor d.
 pub mod Accepted
 pub mod Minimal
@@ -14,3 +15,4 @@ pub mod Steps
 pub mod Opening
 pub mod Magnitudes
 pub mod RunMagnitudes
+pub mod PlanFits

@@ -10,7 +10,7 @@ use lib.Signed.{mag}
 use mir.Facts.{toZ-ofZ}
 use borrow.Author.Needs.{needs}
 use Rattle.rules.specs.Bytes.{unsignedBytes, signedBytes}
-use Rattle.bytes_write.specs.Written.{written}
+use Rattle.bytes_write.specs.Written.{writtenAt}
 use Rattle.bytes_write.specs.Number.{bits64}
 use Rattle.bytes_write.proofs.put_signed.Statement.{statement}
 use Rattle.bytes_write.proofs.put_signed.Tie as tie
@@ -21,14 +21,17 @@ unfolding unsignedBytes
 rest zero v k = refl
 rest (suc w) v k =
     let e : 256 ^ suc w * k ≡ 256 * (256 ^ w * k) = rw (pow-succ' 256 w) (mul-assoc 256 (256 ^ w) k) in
-    rw (e, add-mul-mod-self-left v 256 (256 ^ w * k), add-mul-div-left v (256 ^ w * k) {y = 256} (omega arith), rest w (v / 256) k)
+    let low = add-mul-mod-self-left v 256 (256 ^ w * k) in
+    let high = add-mul-div-left v (256 ^ w * k) {y = 256} (omega arith) in
+    rw (e, low, high, rest w (v / 256) k)
 
 -- 256^(w + e) is 256^w, and 256^w some times more
 wider : (w e s : ℕ) → s ≤ 256 ^ w → unsignedBytes w (256 ^ (w + e) - s) ≡ unsignedBytes w (256 ^ w - s)
 wider w e s h =
     let k = 256 ^ e - 1 in
     let positive : 1 ≤ 256 ^ e = one-le-pow e 256 (omega arith) in
-    let p : 256 ^ (w + e) ≡ 256 ^ w * k + 256 ^ w = pow-add 256 w e ∙ ap (λ (x : ℕ). 256 ^ w * x) (omega arith) ∙ mul-suc (256 ^ w) k in
+    let p : 256 ^ (w + e) ≡ 256 ^ w * k + 256 ^ w =
+    pow-add 256 w e ∙ ap (λ (x : ℕ). 256 ^ w * x) (omega arith) ∙ mul-suc (256 ^ w) k in
     let q : 256 ^ (w + e) - s ≡ 256 ^ w - s + 256 ^ w * k = omega arith in
     rw q (rest w (256 ^ w - s) k)
 
@@ -42,9 +45,12 @@ returns : tie.Need-returns
 returns c =
     let call = c .before .before in
     let start = call .before .before .before .before in
-    let v : call .before .bits .result ≡ bits64 (start .args .v) = simp (toZ-ofZ (start .fits .v)) at (call .before .bits .ensures) in
-    let b = bytes (start .args .width) (start .args .v) (start .pre .narrow) (omega (arith, start .pre .small)) in
-    call .put-unsigned .ensures ∙ ap (λ (s : List ℕ). written s (start .args .d .now)) (ap (unsignedBytes (start .args .width)) v ∙ b)
+    let args = start .args in
+    let v : call .before .bits .result ≡ bits64 (args .v) =
+    simp (toZ-ofZ (start .fits .v)) at (call .before .bits .ensures) in
+    let b = bytes (args .width) (args .v) (start .pre .narrow) (omega (arith, start .pre .small)) in
+    call .put-unsigned .ensures
+    ∙ ap (λ (s : List ℕ). writtenAt (args .at) s (args .d .now)) (ap (unsignedBytes (args .width)) v ∙ b)
 
 pub put-signed-spec : {M : Type 1} → statement M
 put-signed-spec =

@@ -3,7 +3,7 @@ use mathlib.Core.Path.{sym, ap}
 use borrow.Author.Needs.{needs}
 use Rattle.rules.specs.Answers.{outcome}
 use Rattle.rules.specs.Listing.{textFrom}
-use Rattle.out_listing.specs.Laws.{begins-as}
+use Rattle.out_lines.specs.Lines.{begins-as}
 use Rattle.out_listing.proofs.put_answer.Statement.{statement}
 use Rattle.out_listing.proofs.put_answer.Tie as tie
 
@@ -13,7 +13,8 @@ returns c =
     let called = c .before .before in
     let told = called .before .before in
     let start = told .before .before .before .before in
-    begins-as (ap (λ a. textFrom (outcome a) (start .args .«record» .now)) (sym (told .enum-told .given .1))) (called .put-record .ensures)
+    let is = sym (told .enum-told .given .1) in
+    begins-as (ap (λ a. textFrom (outcome a) (start .args .«record» .now)) is) (called .put-record .ensures)
 
 returns-2 : tie.Need-returns-2
 unfolding textFrom outcome
@@ -21,7 +22,8 @@ returns-2 c =
     let called = c .before .before in
     let told = called .before .before .before in
     let start = told .before .before .before .before in
-    begins-as (ap (λ a. textFrom (outcome a) (start .args .«record» .now)) (sym (told .answer .given .1))) (called .put-refusal .ensures)
+    let is = sym (told .answer .given .1) in
+    begins-as (ap (λ a. textFrom (outcome a) (start .args .«record» .now)) is) (called .put-refusal .ensures)
 
 pub put-answer-spec : {M : Type 1} → statement M
 put-answer-spec =

@@ -8,8 +8,8 @@ use borrow.Author.Needs.{needs}
 use lib.ListN.{length, take}
 use Rattle.rules.specs.Answers.{outcome}
 use Rattle.rules.specs.Listing.{textFrom}
-use Rattle.out_text.specs.Laws.{puts-as}
-use Rattle.out_listing.specs.Laws.{begun, listed, not-listed}
+use Rattle.out_text.specs.Growing.{puts-as}
+use Rattle.out_listing.specs.WholeText.{begun, listed, not-listed}
 use Rattle.out_listing.proofs.write_listing.Statement.{statement}
 use Rattle.out_listing.proofs.write_listing.Tie as tie
 
@@ -40,7 +40,8 @@ returns-2 : tie.Need-returns-2
 returns-2 c =
     let copied = c .before .before in
     let called = copied .before .before .before .before .before .before in (
-      listed (puts-as (put called .0) (simp sub-zero at (copied .put-bytes .ensures))) (rw (sym (put called .1)) (omega arith)),
+      listed (puts-as (put called .0) (simp sub-zero at (copied .put-bytes .ensures)))
+          (rw (sym (put called .1)) (omega arith)),
       called .put-answer .ensures .short,
     )
 

@@ -5,7 +5,7 @@ use lib.ListN.{length}
 use lib.IntN.{pos}
 use borrow.Author.Needs.{needs}
 use Rattle.rules.specs.Listing.{decimal}
-use Rattle.out_text.specs.Laws.{length-decimal-below}
+use Rattle.out_text.specs.DecimalLength.{length-decimal-below}
 use Rattle.out_text.proofs.Digits.{some-decimal, more-decimal}
 use Rattle.out_text.proofs.places.Statement.{statement}
 use Rattle.out_text.proofs.places.Tie as tie

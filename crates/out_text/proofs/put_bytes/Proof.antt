@@ -6,7 +6,7 @@ use native.Mathlib.Omega.{arith}
 use lib.ListN.{length, drop, drop-of-length-le}
 use lib.Seq.{drop-cons}
 use borrow.Author.Needs.{needs}
-use Rattle.out_text.specs.Laws.{length-kept}
+use Rattle.out_text.specs.Growing.{length-kept}
 use Rattle.out_text.proofs.Left.{Left, left-next, left-none}
 use Rattle.out_text.proofs.put_bytes.Statement.{statement}
 use Rattle.out_text.proofs.put_bytes.Tie as tie
@@ -22,7 +22,8 @@ loop-again c =
     let turn = c .before .before .before .before .before .before in
     let bytes = turn .before .before .before .args .bytes .now in
     let more : turn .loop .i < length bytes = omega arith in
-    (omega arith, rw add-one (left-next (rw (drop-cons bytes (turn .loop .i) 0) at (turn .loop .inv .1)) (c .before .before .put-byte .ensures)))
+    let left = rw (drop-cons bytes (turn .loop .i) 0) at (turn .loop .inv .1) in
+    (omega arith, rw add-one (left-next left (c .before .before .put-byte .ensures)))
 
 returns : tie.Need-returns Inv-loop μ-loop
 returns c =

@@ -14,7 +14,7 @@ use mir.Val.{SFits, toZ, ofZ}
 use mir.Facts.{toZ-ofZ, toZ-pos}
 use Rattle.proof_integer.specs.Range.{below-zero}
 use Rattle.rules.specs.Listing.{text, decimal}
-use Rattle.out_text.specs.Laws.{then}
+use Rattle.out_text.specs.Growing.{then}
 use Rattle.out_text.proofs.put_integer.Statement.{statement}
 use Rattle.out_text.proofs.put_integer.Tie as tie
 
@@ -65,7 +65,8 @@ returns c =
     let number = c .before .before in
     let sign = number .before .before .before .before in
     let n = sign .before .before in
-    rw (below-decimal (v n) (negative n)) at (then (sign .put-byte .ensures) (simp (less-bits n) at (number .put-number .ensures)))
+    let digits-put = simp (less-bits n) at (number .put-number .ensures) in
+    rw (below-decimal (v n) (negative n)) at (then (sign .put-byte .ensures) digits-put)
 
 -- ---- from 0 on
 module _ (c : tie.Else1) where

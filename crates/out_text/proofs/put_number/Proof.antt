@@ -6,7 +6,8 @@ use native.Mathlib.Omega.{arith}
 use borrow.Author.Needs.{needs}
 use lib.IntN.{pos}
 use Rattle.rules.specs.Listing.{decimal}
-use Rattle.out_text.specs.Laws.{length-kept, length-decimal-pos}
+use Rattle.out_text.specs.Growing.{length-kept}
+use Rattle.out_text.specs.DecimalLength.{length-decimal-pos}
 use Rattle.out_text.proofs.Digits.{cut, cut-decimal}
 use Rattle.out_text.proofs.Left.{Left, left-next, left-none}
 use Rattle.out_text.proofs.put_number.Statement.{statement}
@@ -32,7 +33,8 @@ loop-again c =
     let called = c .before .before in
     let turn = called .before .before .before .before in
     let e : turn .loop .left ≡ suc (turn .loop .left - 1) = omega arith in
-    (omega arith, left-next (rw e at (turn .loop .inv .1)) (rw (called .before .power .ensures) at (called .put-byte .ensures)))
+    let digit-put = rw (called .before .power .ensures) at (called .put-byte .ensures) in
+    (omega arith, left-next (rw e at (turn .loop .inv .1)) digit-put)
 
 returns : tie.Need-returns Inv-loop μ-loop
 unfolding cut

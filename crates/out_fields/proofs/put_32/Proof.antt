@@ -1,0 +1,65 @@
+-- Each turn writes one figure of 32 bits, in 4 bytes, after those before it.
+use Prim.Native.Nat.{_-_}
+use native.Mathlib.Omega.{arith}
+use lib.IntN.{ℤ}
+use mir.Syntax.{w32, w64}
+use mir.Val.{SFits}
+use mir.Facts.{toZ-ofZ}
+use borrow.Author.Needs.{needs}
+use Rattle.proof_integer.specs.Range.{wider}
+use Rattle.rules.specs.Notation.{at}
+use Rattle.out_fields.proofs.Figures.{Turn, first, room, next, last}
+use Rattle.out_fields.proofs.put_32.Statement.{statement}
+use Rattle.out_fields.proofs.put_32.Tie as tie
+
+abbrev Inv-loop : tie.InvT-loop
+Inv-loop d₀ figures count i₀ d i = Turn 4 count figures d₀ d i
+
+abbrev μ-loop : tie.MeasureT-loop
+μ-loop d₀ figures count i₀ d i = count - i
+
+-- figure i fits its 32 bits, and so 64
+module _ (c : tie.After-put-signed-arg2 Inv-loop μ-loop) where
+  abbrev turn : tie.At-loop Inv-loop μ-loop
+  turn = c .before .before .before
+
+  abbrev figure : ℤ
+  figure = at (turn .before .before .args .figures .now) (turn .loop .i)
+
+  narrow : SFits w32 figure
+  narrow = record { sfits = c .put-signed-arg2 .given }
+
+  wide : SFits w64 figure
+  wide = wider tt narrow
+
+cast-put-signed : tie.Need-cast-put-signed Inv-loop μ-loop
+cast-put-signed c = rw (toZ-ofZ (narrow c)) (wide c)
+
+put-signed-requires : tie.Need-put-signed-requires Inv-loop μ-loop
+put-signed-requires c κs =
+    rw (toZ-ofZ (narrow c), toZ-ofZ (wide c))
+    (room (turn c .before .before .pre) (turn c .loop .inv) (omega arith) (omega arith) (narrow c .sfits))
+
+loop-again : tie.Need-loop-again Inv-loop μ-loop
+loop-again c =
+    let call = c .before .before in
+    let wrote = simp (toZ-ofZ (narrow (call .before)), toZ-ofZ (wide (call .before))) at (call .put-signed .ensures) in
+    next (turn (call .before) .loop .inv) (omega arith) wrote (c .before .d .given)
+
+pub put-32-spec : {M : Type 1} → statement M
+put-32-spec =
+    tie.close
+    (tie.spec
+    Inv-loop
+    μ-loop
+    (λ c. first)
+    (search needs)
+    (search needs)
+    (search needs)
+    cast-put-signed
+    put-signed-requires
+    (search needs)
+    (search needs)
+    loop-again
+    (λ c. c .before .loop .inv .long)
+    (λ c. last (c .before .loop .inv) (omega arith)))

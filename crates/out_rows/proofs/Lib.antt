@@ -1,0 +1,3 @@
+-- What the proofs share.
+--   Turns   a loop that puts one line after another
+pub mod Turns

@@ -1,0 +1,31 @@
+-- The lines of a listing, out of the bytes of a record.
+use Prim.Native.Nat.{ℕ, _+_, _*_, _≤_}
+use mathlib.Core.List.{List, [], _∷_}
+use lib.ListN.{length}
+use lib.IntN.{pos}
+use Rattle.rules.specs.Bytes.{unsignedAt, signedAt}
+use Rattle.rules.specs.Record.{stepsAt, sumsAt, multipliersAt}
+use Rattle.rules.specs.Listing.{line}
+
+-- the line of the step count
+unfoldable pub stepsLine : List ℕ → List ℕ
+stepsLine r = line "steps" (pos (unsignedAt 2 r stepsAt) ∷ [])
+
+-- the line of material j
+unfoldable pub materialLine : List ℕ → ℕ → List ℕ
+materialLine r j = line "mat" (pos j ∷ signedAt 4 r (sumsAt + 4 * j) ∷ [])
+
+-- the line of limit i, in a record whose multipliers begin at place a and residual totals at place b
+unfoldable pub limitLine : List ℕ → ℕ → ℕ → ℕ → List ℕ
+limitLine r a b i = line "lim" (pos i ∷ signedAt 4 r (a + 4 * i) ∷ signedAt 8 r (b + 8 * i) ∷ [])
+
+-- the sums of the first n materials stand in the bytes
+pub record MaterialsInside (r : List ℕ) (n : ℕ) : Type 0 where
+  pub few : n ≤ 32
+  pub whole : multipliersAt n ≤ length r
+
+-- the figures of the first m limits stand in the bytes
+pub record LimitsInside (r : List ℕ) (a b m : ℕ) : Type 0 where
+  pub few : m ≤ 16
+  pub multipliers : a + 4 * m ≤ length r
+  pub totals : b + 8 * m ≤ length r

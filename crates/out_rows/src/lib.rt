@@ -1,0 +1,84 @@
+// Lines of the figures of a record.
+// Each function puts lines at the end of a text, place `at`, and answers the place after them.
+ghost use mathlib.Core.List.{[], _∷_};
+ghost use Prim.Native.Nat.{suc};
+ghost use Rattle.rules.specs.Bytes.{signedAt};
+ghost use Rattle.rules.specs.Record.{stepsAt};
+ghost use Rattle.rules.specs.Listing.{lines};
+ghost use Rattle.bytes_read.specs.Inside.{Inside};
+ghost use Rattle.out_text.specs.Text.{Puts};
+ghost use Rattle.out_lines.specs.Lines.{lineOf};
+ghost use Rattle.out_rows.specs.RecordLines.{stepsLine, materialLine, limitLine, MaterialsInside, LimitsInside};
+use bytes_read::signed_at;
+use bytes_read::size_at;
+use out_layout::STEPS_AT;
+use out_layout::SUMS_AT;
+use out_lines::put_line;
+
+// The line of the step count.
+pub fn put_steps(d: &mut [u8], at: usize, record: &[u8]) -> usize
+    requires { ⌜ Inside 2 (now «record») stepsAt ⌝ }
+    ensures { λ r. ⌜ Puts (stepsLine (now («record» .entry))) (now (d .entry)) at (now (d .exit)) r ⌝ }
+{
+    let figures = [size_at(record, STEPS_AT) as i64];
+    put_line(d, at, b"steps", &figures)
+}
+
+// The line of a material.
+fn put_material(d: &mut [u8], at: usize, record: &[u8], j: usize) -> usize
+    requires { ⌜ MaterialsInside (now «record») (suc j) ⌝ }
+    ensures { λ r. ⌜ Puts (materialLine (now («record» .entry)) j) (now (d .entry)) at (now (d .exit)) r ⌝ }
+{
+    let sum = signed_at(record, SUMS_AT + 4 * j, 4);
+    let figures = [j as i64, sum];
+    put_line(d, at, b"mat", &figures)
+}
+
+// The lines of the materials.
+pub fn put_materials(d: &mut [u8], at: usize, record: &[u8], n: usize) -> usize
+    requires { ⌜ MaterialsInside (now «record») n ⌝ }
+    ensures { λ r. ⌜ Puts (lines n (materialLine (now («record» .entry)))) (now (d .entry)) at (now (d .exit)) r ⌝ }
+{
+    let mut end = at;
+    let mut j: usize = 0;
+    while j < n {
+        end = put_material(d, end, record, j);
+        j += 1;
+    }
+    end
+}
+
+// The line of a limit, in a record whose multipliers begin at place a and residual totals at place b.
+fn put_limit(d: &mut [u8], at: usize, record: &[u8], a: usize, b: usize, i: usize) -> usize
+    requires { ⌜ LimitsInside (now «record») a b (suc i) ⌝ }
+    ensures { λ r. ⌜ Puts (limitLine (now («record» .entry)) a b i) (now (d .entry)) at (now (d .exit)) r ⌝ }
+{
+    let multiplier = signed_at(record, a + 4 * i, 4);
+    let total = signed_at(record, b + 8 * i, 8);
+    let figures = [i as i64, multiplier, total];
+    put_line(d, at, b"lim", &figures)
+}
+
+// The lines of the limits.
+pub fn put_limits(d: &mut [u8], at: usize, record: &[u8], a: usize, b: usize, m: usize) -> usize
+    requires { ⌜ LimitsInside (now «record») a b m ⌝ }
+    ensures { λ r. ⌜ Puts (lines m (limitLine (now («record» .entry)) a b)) (now (d .entry)) at (now (d .exit)) r ⌝ }
+{
+    let mut end = at;
+    let mut i: usize = 0;
+    while i < m {
+        end = put_limit(d, end, record, a, b, i);
+        i += 1;
+    }
+    end
+}
+
+// The line of a word and the figure of 8 bytes at a place of the record.
+pub fn put_value(d: &mut [u8], at: usize, word: &[u8], record: &[u8], place: usize) -> usize
+    requires { ⌜ Inside 8 (now «record») place ⌝ }
+    ensures { λ r. ⌜ Puts (lineOf (now (word .entry)) (signedAt 8 (now («record» .entry)) place ∷ []))
+        (now (d .entry)) at (now (d .exit)) r ⌝ }
+{
+    let figures = [signed_at(record, place, 8)];
+    put_line(d, at, word, &figures)
+}
