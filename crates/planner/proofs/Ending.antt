@@ -21,12 +21,12 @@ use Rattle.proof_margins.specs.Theorem.{margins}
 use Rattle.sheet_figures.specs.declared.Figures.{Figures}
 use Rattle.sheet_figures.specs.Padded.{tabulate-at}
 use Rattle.sheet_figures.specs.Figures.{problemOf}
-use Rattle.run_steps.specs.declared.State.{State}
-use Rattle.run_steps.specs.Arrays.{arraysOf}
-use Rattle.run_steps.specs.Reads.{multipliers-read, sums-read, totals-read}
-use Rattle.run_steps.specs.Asked.{Reached}
-use Rattle.out_record.specs.Held.{planIn}
-use Rattle.planner.specs.Finish.{Ends}
+use Rattle.run_step.specs.declared.State.{State}
+use Rattle.run_step.specs.States.{stateIn}
+use Rattle.run_step.specs.Reads.{multipliers-read, sums-read, totals-read}
+use Rattle.run_step.specs.Reached.{Reached}
+use Rattle.out_record.specs.RecordParts.{planIn}
+use Rattle.planner.specs.Ends.{Ends}
 
 -- a refusal leaves the buffer as lent
 pub ends-refused : {p : Plan} {met : Option Numbered} {lent : List ℕ} (r : Refusal) → met ≡ some (numbered r) → Ends p met lent lent (Answer.Refused r)
@@ -43,7 +43,7 @@ ends-planned l g b = record { answered = λ i. plan (l i) (g i); buffer = b }
 pub ends-same : {p q : Plan} {met first : Option Numbered} {lent left : List ℕ} {r : Answer} → p ≡ q → met ≡ first → Ends p met lent left r → Ends q first lent left r
 ends-same {lent = lent} {left = left} {r = r} e m h = transport (λ i. Ends (e i) (m i) lent left r) h
 
--- ---- the plan that the arrays hold after the last step
+-- ---- the plan that stands in the arrays after the last step
 module _ (f : Figures) {w : State} (reached : Reached f (f .steps) w) where
   abbrev P : Problem
   P = problemOf f
@@ -51,37 +51,37 @@ module _ (f : Figures) {w : State} (reached : Reached f (f .steps) w) where
   abbrev last : step.State
   last = stateAfter P (f .steps)
 
-  sums-held : tabulate (f .materials) (at (w .sums)) ≡ last .sums
-  unfolding arraysOf
-  sums-held =
+  sums-kept : tabulate (f .materials) (at (w .sums)) ≡ last .sums
+  unfolding stateIn
+  sums-kept =
       (λ i. tabulate (f .materials) (sums-read (reached .accepted) (f .steps) (λ k. reached .state k .sums) i))
       ∙ tabulate-at (f .materials) (last .sums) (sums-length P (f .steps))
 
-  multipliers-held : tabulate (f .limits) (at (w .multipliers)) ≡ last .multipliers
-  unfolding arraysOf
-  multipliers-held =
+  multipliers-kept : tabulate (f .limits) (at (w .multipliers)) ≡ last .multipliers
+  unfolding stateIn
+  multipliers-kept =
       (λ i. tabulate (f .limits) (multipliers-read (reached .accepted) (f .steps) (λ k. reached .state k .multipliers) i))
       ∙ tabulate-at (f .limits) (last .multipliers) (multipliers-length P (f .steps))
 
-  totals-held : tabulate (f .limits) (at (w .totals)) ≡ last .residualTotals
-  unfolding arraysOf
-  totals-held =
+  totals-kept : tabulate (f .limits) (at (w .totals)) ≡ last .residualTotals
+  unfolding stateIn
+  totals-kept =
       (λ i. tabulate (f .limits) (totals-read (reached .accepted) (f .steps) (λ k. reached .state k .totals) i))
       ∙ tabulate-at (f .limits) (last .residualTotals) (totals-length P (f .steps))
 
-  pub plan-held : {low gap : ℤ} → low ≡ planAfter P (f .steps) .low → gap ≡ planAfter P (f .steps) .gap
+  pub plan-in-arrays : {low gap : ℤ} → low ≡ planAfter P (f .steps) .low → gap ≡ planAfter P (f .steps) .gap
       → planIn (record { materials = f .materials; limits = f .limits; steps = f .steps; low = low; gap = gap }) (w .sums) (w .multipliers) (w .totals)
       ≡ planAfter P (f .steps)
   unfolding planIn planAfter
-  plan-held l g = λ i. record {
+  plan-in-arrays l g = λ i. record {
     materials = f .materials;
     limits = f .limits;
     steps = f .steps;
     low = l i;
     gap = g i;
-    sums = sums-held i;
-    multipliers = multipliers-held i;
-    residualTotals = totals-held i;
+    sums = sums-kept i;
+    multipliers = multipliers-kept i;
+    residualTotals = totals-kept i;
   }
 
 -- ---- the promise, from the end

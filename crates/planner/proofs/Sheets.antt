@@ -12,14 +12,14 @@ use Rattle.rules.specs.Refusals.{Numbered, refuse, _otherwise_, layoutRefusal, 
 use Rattle.rules.specs.Answers.{stepRefusal, refusal, planOf}
 use Rattle.proof_laws.specs.FirstPlace.{given, handed-on}
 use Rattle.proof_laws.specs.Agreeing.{Agree, same-refusal, same-plan}
-use Rattle.proof_margins.specs.Accepted.{Accepted, accepted}
+use Rattle.proof_magnitudes.specs.Accepted.{Accepted, accepted}
 use Rattle.sheet_figures.specs.declared.Figures.{Figures}
-use Rattle.sheet_figures.specs.Figures.{Holds, figuresOf, problemOf, figures-hold}
+use Rattle.sheet_figures.specs.Figures.{FiguresHold, figuresOf, problemOf, figures-hold}
 
 -- ---- the problem whose figures stand in the arrays of P
 module _ {P : Problem} {k : ℕ} (a : Accepted P k) where
-  held : Holds P (figuresOf P k)
-  held = figures-hold P k (a .materials-few) (a .limits-few)
+  in-arrays : FiguresHold P (figuresOf P k)
+  in-arrays = figures-hold P k (a .materials-few) (a .limits-few)
 
   -- it agrees with P
   agree : Agree (problemOf (figuresOf P k)) P
@@ -29,11 +29,11 @@ module _ {P : Problem} {k : ℕ} (a : Accepted P k) where
     limits = refl;
     numerator = refl;
     scale = refl;
-    cost = held .costs .here;
-    least = held .leasts .here;
-    most = held .mosts .here;
-    coefficient = held .coefficients .here;
-    rhs = held .right-hand-sides .here;
+    cost = in-arrays .costs .here;
+    least = in-arrays .leasts .here;
+    most = in-arrays .mosts .here;
+    coefficient = in-arrays .coefficients .here;
+    rhs = in-arrays .right-hand-sides .here;
   }
 
   -- and lies in the same ranges
@@ -49,12 +49,12 @@ module _ {P : Problem} {k : ℕ} (a : Accepted P k) where
     scale-small = a .scale-small;
     steps-some = a .steps-some;
     steps-few = a .steps-few;
-    cost-in = λ j l. rw (held .costs .here j l) (a .cost-in j l);
-    least-sign = λ j l. rw (held .leasts .here j l) (a .least-sign j l);
-    ordered = λ j l. rw (held .leasts .here j l, held .mosts .here j l) (a .ordered j l);
-    most-in = λ j l. rw (held .mosts .here j l) (a .most-in j l);
-    coefficient-in = λ i h j l. rw (held .coefficients .here i j h l) (a .coefficient-in i h j l);
-    rhs-in = λ i l. rw (held .right-hand-sides .here i l) (a .rhs-in i l);
+    cost-in = λ j l. rw (in-arrays .costs .here j l) (a .cost-in j l);
+    least-sign = λ j l. rw (in-arrays .leasts .here j l) (a .least-sign j l);
+    ordered = λ j l. rw (in-arrays .leasts .here j l, in-arrays .mosts .here j l) (a .ordered j l);
+    most-in = λ j l. rw (in-arrays .mosts .here j l) (a .most-in j l);
+    coefficient-in = λ i h j l. rw (in-arrays .coefficients .here i j h l) (a .coefficient-in i h j l);
+    rhs-in = λ i l. rw (in-arrays .right-hand-sides .here i l) (a .rhs-in i l);
     start-sign = a .start-sign;
     start-top = a .start-top;
   }

@@ -7,29 +7,30 @@ ghost use Rattle.rules.specs.Record.{recordLength};
 ghost use Rattle.rules.specs.Refusals.{refuse, _otherwise_};
 ghost use Rattle.rules.specs.Answers.{stepRefusal};
 ghost use Rattle.rules.specs.Promise.{Promise};
-ghost use Rattle.proof_margins.specs.Accepted.{Accepted};
+ghost use Rattle.proof_magnitudes.specs.Accepted.{Accepted};
 ghost use Rattle.sheet_figures.specs.Figures.{problemOf};
-ghost use Rattle.planner.specs.Finish.{Ends, RunAsked, WriteAsked};
+ghost use Rattle.planner.specs.Ends.{Ends, RunReady, WriteReady};
+use out_layout::record_length;
 use out_record::Head;
 use out_record::write_record;
 use rules::Answer;
 use rules::Cause;
 use rules::Refusal;
-use run_steps::State;
-use run_steps::Stop;
-use run_steps::gap;
+use rules::Verdict;
+use run_costs::gap;
+use run_step::State;
 use run_steps::run;
 use sheet_figures::Figures;
-use sheet_read::Verdict;
 use sheet_read::read_sheet;
 
 // The record and the answer of a run that came to its end.
 fn write_plan(f: Figures, state: State, record: &mut [u8]) -> Answer
-    requires { ⌜ WriteAsked f state (now «record») ⌝ }
+    requires { ⌜ WriteReady f state (now «record») ⌝ }
     ensures { λ r. ⌜ Ends (planAfter (problemOf f) (f .steps)) none (now («record» .entry)) (now («record» .exit)) r ⌝ }
 {
     let low = state.low;
-    let gap = gap(f, state);
+    let sums = state.sums;
+    let gap = gap(f.materials, f.scale, &f.cost, &sums, f.steps, low);
     let head = Head {
         materials: f.materials,
         limits: f.limits,
@@ -37,7 +38,6 @@ fn write_plan(f: Figures, state: State, record: &mut [u8]) -> Answer
         low: low,
         gap: gap,
     };
-    let sums = state.sums;
     let multipliers = state.multipliers;
     let totals = state.totals;
     write_record(record, head, &sums, &multipliers, &totals);
@@ -46,14 +46,14 @@ fn write_plan(f: Figures, state: State, record: &mut [u8]) -> Answer
 
 // The run of a sheet's figures, in a buffer that can take the record.
 fn plan_run(f: Figures, record: &mut [u8]) -> Answer
-    requires { ⌜ RunAsked f (now «record») ⌝ }
+    requires { ⌜ RunReady f (now «record») ⌝ }
     ensures { λ r. ⌜ Ends (planAfter (problemOf f) (f .steps)) (stepRefusal (problemOf f) (f .steps)) (now («record» .entry)) (now («record» .exit)) r ⌝ }
 {
     let ran = run(f);
     let stop = ran.stop;
     match stop {
-        Stop::Stopped(refusal) => Answer::Refused(refusal),
-        Stop::Going => write_plan(f, ran.state, record),
+        Verdict::Refused(refusal) => Answer::Refused(refusal),
+        Verdict::Passed => write_plan(f, ran.state, record),
     }
 }
 
@@ -65,7 +65,7 @@ fn plan_figures(f: Figures, record: &mut [u8]) -> Answer
         otherwise stepRefusal (problemOf f) (f .steps))
         (now («record» .entry)) (now («record» .exit)) r ⌝ }
 {
-    let wanted = 22 + 4 * f.materials + 12 * f.limits;
+    let wanted = record_length(f.materials, f.limits);
     if record.len() < wanted {
         return Answer::Refused(Refusal {
             place: wanted,
@@ -84,6 +84,6 @@ pub fn plan(sheet: &[u8], record: &mut [u8]) -> Answer
     let verdict = reading.verdict;
     match verdict {
         Verdict::Refused(refusal) => Answer::Refused(refusal),
-        Verdict::Accepted => plan_figures(reading.figures, record),
+        Verdict::Passed => plan_figures(reading.figures, record),
     }
 }

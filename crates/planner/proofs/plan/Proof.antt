@@ -8,7 +8,8 @@ use borrow.Author.Needs.{needs}
 use Rattle.rules.specs.Sheet.{sheetOf, problem}
 use Rattle.rules.specs.Refusals.{layoutRefusal}
 use Rattle.sheet_figures.specs.Figures.{figuresOf}
-use Rattle.sheet_read.specs.Reading.{refusalOf, figuresUnless}
+use Rattle.rules.specs.Refusals.{refusalOf}
+use Rattle.sheet_read.specs.Reading.{figuresUnless}
 use Rattle.planner.proofs.Ending.{ends-refused, ends-same, promised}
 use Rattle.planner.proofs.Sheets.{figures-accepted, plan-is, refusal-is, turned-back}
 use Rattle.planner.proofs.plan.Statement.{statement}

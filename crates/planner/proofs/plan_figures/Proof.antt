@@ -1,37 +1,36 @@
 -- A buffer that is too short is refused before any step.
-use mathlib.Core.Path.{refl, sym}
+use mathlib.Core.Path.{refl, sym, ap, _∙_}
+use Prim.Native.Nat.{ℕ}
+use lib.Dec.{ltb}
+use lib.ListN.{length}
 use borrow.Author.Needs.{needs}
 use borrow.Author.Tests.{lt-ltb, le-ltb}
-use Rattle.rules.specs.Record.{recordLength}
-use Rattle.rules.specs.Refusals.{numbered, numberOf}
+use Rattle.rules.specs.Refusals.{numbered, numberOf, refuse}
 use Rattle.proof_laws.specs.FirstPlace.{refuse-yes, refuse-no, given, handed-on}
 use Rattle.planner.proofs.Ending.{ends-refused, ends-same}
 use Rattle.planner.proofs.plan_figures.Statement.{statement}
 use Rattle.planner.proofs.plan_figures.Tie as tie
 
 returns : tie.Need-returns
-unfolding recordLength numbered numberOf
-returns c = ends-refused _ (given _ (refuse-yes 8 _ (lt-ltb _ _ (c .if1 .taken))))
+unfolding numbered numberOf
+returns c =
+    let s = c .before .before .before in
+    let wanted = c .before .record-length .ensures in
+    ends-refused _ (given _ (
+    ap (λ (n : ℕ). refuse 8 n (ltb (length (s .args .«record» .now)) n)) (sym wanted) ∙ refuse-yes 8 _ (lt-ltb _ _ (c .if1 .taken))))
 
 plan-run-requires : tie.Need-plan-run-requires
-unfolding recordLength
-plan-run-requires c κs = record { accepted = c .before .before .before .before .before .pre; room = c .before .if1 .left }
+plan-run-requires c κs =
+    let read = c .before .before in
+    record { accepted = read .before .before .pre; room = rw (read .record-length .ensures) at (c .before .if1 .left) }
 
 returns-2 : tie.Need-returns-2
-unfolding recordLength
 returns-2 c =
     let ran = c .before .before in
-    ends-same refl (sym (handed-on _ (refuse-no 8 _ (le-ltb _ _ (ran .before .before .if1 .left))))) (ran .plan-run .ensures)
+    let else = ran .before .before in
+    let room = rw (else .before .record-length .ensures) at (else .if1 .left) in
+    ends-same refl (sym (handed-on _ (refuse-no 8 _ (le-ltb _ _ room)))) (ran .plan-run .ensures)
 
 pub plan-figures-spec : {M : Type 1} → statement M
 plan-figures-spec =
-    tie.close
-    (tie.spec
-    (search needs)
-    (search needs)
-    (search needs)
-    (search needs)
-    returns
-    plan-run-requires
-    (search needs)
-    returns-2)
+    tie.close (tie.spec (λ c κs. search needs) returns plan-run-requires (search needs) returns-2)

@@ -3,11 +3,12 @@ use mathlib.Core.Path.{_≡_, refl, sym, ap, _∙_}
 use mathlib.Core.Option.{none}
 use borrow.Author.Needs.{needs}
 use native.Mathlib.Nat.{le-refl}
+use Rattle.rules.specs.Refusals.{refusalOf}
 use Rattle.rules.specs.Answers.{stepRefusal}
 use Rattle.sheet_figures.specs.Figures.{problemOf}
-use Rattle.run_steps.specs.Arrays.{refusalOf, stepsTaken, arraysOf}
+use Rattle.run_step.specs.States.{stateIn, stepsTaken}
 use Rattle.rules.specs.Run.{stateAfter}
-use Rattle.run_steps.specs.Asked.{Reached}
+use Rattle.run_step.specs.Reached.{Reached}
 use Rattle.planner.proofs.Ending.{ends-refused, ends-same}
 use Rattle.planner.proofs.plan_run.Statement.{statement}
 use Rattle.planner.proofs.plan_run.Tie as tie
@@ -39,7 +40,7 @@ module _ (c : tie.After-enum-told) where
         accepted = s .pre .accepted;
         few = le-refl _;
         going = going;
-        state = ran .run .ensures .state ∙ (λ i. arraysOf (stateAfter (problemOf f) (stepsTaken (f .steps) (going i))));
+        state = ran .run .ensures .state ∙ (λ i. stateIn (stateAfter (problemOf f) (stepsTaken (f .steps) (going i))));
       }
 
 write-plan-requires : tie.Need-write-plan-requires

@@ -9,11 +9,11 @@ use Rattle.rules.specs.Run.{Plan}
 use Rattle.rules.specs.Record.{recordLength}
 use Rattle.rules.specs.Refusals.{Numbered}
 use Rattle.rules.specs.Answers.{outcome, outcomeOf, bufferOf}
-use Rattle.proof_margins.specs.Accepted.{Accepted}
+use Rattle.proof_magnitudes.specs.Accepted.{Accepted}
 use Rattle.sheet_figures.specs.declared.Figures.{Figures}
 use Rattle.sheet_figures.specs.Figures.{problemOf}
-use Rattle.run_steps.specs.declared.State.{State}
-use Rattle.run_steps.specs.Asked.{Reached}
+use Rattle.run_step.specs.declared.State.{State}
+use Rattle.run_step.specs.Reached.{Reached}
 
 -- the answer of a plan p and of the refusal that was met, if any, with the buffer afterwards
 pub record Ends (p : Plan) (met : Option Numbered) (lent left : List ℕ) (result : Answer) : Type 0 where
@@ -21,11 +21,11 @@ pub record Ends (p : Plan) (met : Option Numbered) (lent left : List ℕ) (resul
   pub buffer : left ≡ bufferOf p lent (outcomeOf p met)
 
 -- the figures of an accepted sheet, and a buffer that can take the record
-pub record RunAsked (f : Figures) (lent : List ℕ) : Type 0 where
+pub record RunReady (f : Figures) (lent : List ℕ) : Type 0 where
   pub accepted : Accepted (problemOf f) (f .steps)
   pub room : recordLength (f .materials) (f .limits) ≤ length lent
 
 -- a state after all steps, and a buffer that can take the record
-pub record WriteAsked (f : Figures) (state : State) (lent : List ℕ) : Type 0 where
+pub record WriteReady (f : Figures) (state : State) (lent : List ℕ) : Type 0 where
   pub reached : Reached f (f .steps) state
   pub room : recordLength (f .materials) (f .limits) ≤ length lent
