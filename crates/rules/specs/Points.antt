@@ -12,7 +12,7 @@ use Rattle.rules.specs.Notation.{neg, sumTo, at}
 use Rattle.rules.specs.Problem.{Problem, Feasible, NoneFeasible}
 use Rattle.rules.specs.Sheet.{sheetOf, problem}
 use Rattle.rules.specs.Run.{lookAt, planAfter}
-use Rattle.rules.specs.Answers.{plan, refused}
+use Rattle.rules.specs.Answers.{plan, refused, answer}
 use Rattle.rules.specs.Margins.{square, PlanMargins, Margins}
 use Rattle.rules.specs.Rows.{_∶_, encode, Holds}
 use Rattle.rules.specs.Marked.{C1, C2, C3, C7, C9}
@@ -140,6 +140,23 @@ pub margins-of-no-blend : Margins (C3 .sheet) (refused (record { number = 9; pla
 unfolding Margins
 margins-of-no-blend claim = claim refl
 
+-- with a most amount of 5, in place of 1, it is planned, and has one: 5
+abbrev C3-with-5 : List ℕ
+C3-with-5 = encode 1 1 1 1 2 (0 ∶ pos 1 ∷ 128 ∶ pos 5 ∷ 192 ∶ neg 1 ∷ 193 ∶ neg 5 ∷ [])
+
+pub answered-with-5 : answer C3-with-5 (C3 .room) ≡ plan (pos 5) (neg 5)
+unfolding Holds
+answered-with-5 = refl
+
+pub feasible-with-5 : Feasible (problemOf C3-with-5) (pos 1) (one (pos 5))
+unfolding Holds
+feasible-with-5 = record {
+  divisor = ltZ-yes tt;
+  above = below-one _ (leZ-yes tt);
+  below = below-one _ (leZ-yes tt);
+  within = below-one _ (leZ-yes tt);
+}
+
 -- ---- the two sides of the residual claim at limit 0, and of the squares claim
 module _ (P : Problem) (k : ℕ) where
   abbrev pub residual-left : ℤ
@@ -178,12 +195,15 @@ squares-C2 claim = claim .le
 -- step 1: M = 12; weight 6 − 24 = −18; amount 2; miss −1; value 12 − 12 = 0.
 -- Closing M = 12 − 4 = 8; sum 2; overshoot 2; low 0; gap 6·2 − 2·0 = 12.
 -- The residual claim is 4·2 ≤ 8, and the squares claim 2·4·12 + 8² ≤ 4²·(3² + 1²): 160 on both sides.
-abbrev pub P₄ : Problem
-P₄ = problemOf (encode 1 1 4 6 2 (0 ∶ pos 1 ∷ 128 ∶ pos 2 ∷ 192 ∶ neg 2 ∷ 193 ∶ neg 3 ∷ []))
+abbrev pub S₄ : List ℕ
+S₄ = encode 1 1 4 6 2 (0 ∶ pos 1 ∷ 128 ∶ pos 2 ∷ 192 ∶ neg 2 ∷ 193 ∶ neg 3 ∷ [])
 
-pub answered-P₄ : (planAfter P₄ 2 .low ≡ pos 0) × (planAfter P₄ 2 .gap ≡ pos 12)
+abbrev pub P₄ : Problem
+P₄ = problemOf S₄
+
+pub answered-S₄ : answer S₄ 38 ≡ plan (pos 0) (pos 12)
 unfolding Holds
-answered-P₄ = (refl, refl)
+answered-S₄ = refl
 
 pub claims-say-P₄ : PlanMargins P₄ 2 (pos 0) (pos 12) → (pos 8 ≤ℤ pos 8) × (pos 160 ≤ℤ pos 160)
 unfolding Holds
