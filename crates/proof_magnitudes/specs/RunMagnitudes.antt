@@ -16,7 +16,7 @@ use Rattle.proof_integer.specs.Vector.{at-tabulate}
 use Rattle.rules.specs.Notation.{at}
 use Rattle.rules.specs.Problem.{Problem}
 use Rattle.rules.specs.Sheet.{sheetOf, problem}
-use Rattle.rules.specs.Step.{lookFrom, greatestCost, cheapestCost, infeasible, next, diverged}
+use Rattle.rules.specs.Step.{greatestCost, cheapestCost, infeasible, next, diverged}
 use Rattle.rules.specs.Run.{startingMultiplier, start, stateAfter, lookAt, lowAfter, gapOf}
 use Rattle.rules.specs.Refusals.{firstBelow, layoutRefusal}
 use Rattle.rules.specs.Answers.{refusalAt, stepRefusal}

@@ -155,3 +155,8 @@ value-C3 = refl
 pub greatest-C3 : greatestCost problem-C3 ≡ pos 1
 unfolding Holds
 greatest-C3 = refl
+
+-- C8: the cheapest cost is that of 3, −6, and low is as large
+pub cheapest-C8 : cheapestCost (problem (sheetOf (C8 .sheet))) ≡ neg 6
+unfolding Holds
+cheapest-C8 = refl
