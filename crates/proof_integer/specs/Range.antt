@@ -10,8 +10,8 @@ use lib.IntN.{ℤ, pos, negsuc, negℤ, natAbs, _+ℤ_, _-ℤ_, _*ℤ_}
 use lib.Signed.{_≤ℤ_, mag, leZ, ltZ, natAbs-le}
 use borrow.Author.Tests.{ltb-true, le-ltb}
 use mir.Syntax.{Width}
-use mir.Val.{SFits, hbits, toZ}
-use mir.Facts.{toZ-pos}
+use mir.Val.{SFits, hbits, toZ, ofZ}
+use mir.Facts.{toZ-ofZ, toZ-pos}
 use Rattle.proof_integer.specs.Parts.{up, dn, neg-up, neg-dn, add-parts, le→parts, parts→le}
 
 -- ---- the absolute value: by the parts, of a sum, a negation and a product
@@ -86,6 +86,14 @@ bnd-sfits {w} {z} {a} t h = record { sfits = lt-of-le-of-lt (le-trans (mag-abs z
 -- what fits a width fits a wider one; at two widths the test computes, `wider tt h`
 pub wider : {v w : Width} {z : ℤ} → T (leb (2 ^ hbits v) (2 ^ hbits w)) → SFits v z → SFits w z
 wider {v} {w} t h = record { sfits = lt-of-lt-of-le (h .sfits) (leb→le (2 ^ hbits v) (2 ^ hbits w) t) }
+
+-- so a number in v bits keeps its value when it is cast to the wider w
+module _ (w : Width) {v : Width} {z : ℤ} (narrow : T (leb (2 ^ hbits v) (2 ^ hbits w))) (fits : SFits v z) where
+  pub widened : SFits w (toZ v (ofZ v z))
+  widened = rw (toZ-ofZ fits) (wider {v = v} {w = w} narrow fits)
+
+  pub widened-is : toZ w (ofZ w (toZ v (ofZ v z))) ≡ z
+  widened-is = rw (toZ-ofZ widened, toZ-ofZ fits)
 
 -- a small number fits; `N` is a numeral, as in `small-fits {N = 1024} tt h`
 pub small-fits : {w : Width} {n N : ℕ} → T (ltb N (2 ^ hbits w)) → n ≤ N → SFits w (pos n)

@@ -1,6 +1,6 @@
 -- Vectors. A function `f : ℕ → A` gives each element, `tabulate n f` is the list of the first n, and `at` reads a list of integers back, 0 past its end.
 use mathlib.Core.Path.{_≡_, refl, ap, ap₂}
-use mathlib.Core.List.{List, [], _∷_}
+use mathlib.Core.List.{_∷_}
 use Prim.Native.Nat.{ℕ, zero, suc, _<_, zero-le, suc-le-suc}
 use native.Mathlib.Nat.{le-of-suc-le-suc, not-suc-le-zero}
 use lib.ListN.{length, getD}

@@ -8,8 +8,8 @@ use Rattle.proof_integer.specs.Sum.{sumTo-cong}
 use Rattle.proof_integer.specs.Vector.{tabulate-cong}
 use Rattle.rules.specs.Notation.{maxℤ, sumTo, tabulate, at}
 use Rattle.rules.specs.Problem.{Problem, costOf, loadOf}
-use Rattle.rules.specs.Step.{State, anyBelow, reducedCost, amount, residual, dualValue, lookFrom, greatestCost, infeasible, moved, next, diverged}
-use Rattle.rules.specs.Run.{startingMultiplier, start, stateAfter, lookAt, lowAfter, gapOf, planAfter}
+use Rattle.rules.specs.Step.{State, anyBelow, reducedCost, amount, residual, dualValue, lookAt, greatestCost, infeasible, moved, next, diverged}
+use Rattle.rules.specs.Run.{startingMultiplier, start, stateAfter, lookAfter, lowAfter, gapOf, planAfter}
 use Rattle.rules.specs.Refusals.{refuse, _otherwise_}
 use Rattle.rules.specs.Answers.{refusalAt, stepRefusal}
 use Rattle.proof_laws.specs.FirstPlace.{first-cong}
@@ -69,10 +69,9 @@ module _ {P Q : Problem} (same : Agree P Q) where
   greatest-costs = costs _ _ (λ j l k. cond (ltZ (pos 0) (same .cost j l k)) (same .most j l k) (same .least j l k))
 
   -- ---- a look, and a step
-  looks : (w : State) → lookFrom P w ≡ lookFrom Q w
-  unfolding lookFrom
-  looks w =
-      let M = at (w .multipliers) in
+  looks : (M : ℕ → ℤ) → lookAt P M ≡ lookAt Q M
+  unfolding lookAt
+  looks M =
       let x = at (tabulate (P .materials) (amount P M)) in
       let y = at (tabulate (Q .materials) (amount Q M)) in
       let same-list = by-materials (amount P M) (amount Q M) (amounts M) in
@@ -84,13 +83,13 @@ module _ {P Q : Problem} (same : Agree P Q) where
   nexts : (w : State) → next P w ≡ next Q w
   unfolding next moved
   nexts w =
-      let q = looks w in
       let M = at (w .multipliers) in
-      let moves = by-limits (moved P M (at (lookFrom P w .residuals))) (moved Q M (at (lookFrom Q w .residuals)))
+      let q = looks M in
+      let moves = by-limits (moved P M (at (lookAt P M .residuals))) (moved Q M (at (lookAt Q M .residuals)))
       (λ i _ k. maxℤ (pos 0) (M i +ℤ pos (same .numerator k) *ℤ at (q k .residuals) i)) in
-      let sums = by-materials (λ j. at (w .sums) j +ℤ at (lookFrom P w .amounts) j) (λ j. at (w .sums) j +ℤ at (lookFrom Q w .amounts) j)
+      let sums = by-materials (λ j. at (w .sums) j +ℤ at (lookAt P M .amounts) j) (λ j. at (w .sums) j +ℤ at (lookAt Q M .amounts) j)
       (λ j _ k. at (w .sums) j +ℤ at (q k .amounts) j) in
-      let totals = by-limits (λ i. at (w .residualTotals) i +ℤ at (lookFrom P w .residuals) i) (λ i. at (w .residualTotals) i +ℤ at (lookFrom Q w .residuals) i)
+      let totals = by-limits (λ i. at (w .residualTotals) i +ℤ at (lookAt P M .residuals) i) (λ i. at (w .residualTotals) i +ℤ at (lookAt Q M .residuals) i)
       (λ i _ k. at (w .residualTotals) i +ℤ at (q k .residuals) i) in
       λ k. record {
         multipliers = moves k;
@@ -113,9 +112,9 @@ module _ {P Q : Problem} (same : Agree P Q) where
   states zero = starts
   states (suc t) = nexts (stateAfter P t) ∙ ap (next Q) (states t)
 
-  looks-at : (t : ℕ) → lookAt P t ≡ lookAt Q t
-  unfolding lookAt
-  looks-at t = looks (stateAfter P t) ∙ ap (lookFrom Q) (states t)
+  looks-at : (t : ℕ) → lookAfter P t ≡ lookAfter Q t
+  unfolding lookAfter
+  looks-at t = looks (at (stateAfter P t .multipliers)) ∙ (λ k. lookAt Q (at (states t k .multipliers)))
 
   pub same-refusal : (k : ℕ) → stepRefusal P k ≡ stepRefusal Q k
   unfolding stepRefusal refusalAt infeasible diverged

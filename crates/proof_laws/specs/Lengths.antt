@@ -4,8 +4,8 @@ use Prim.Native.Nat.{ℕ, zero, suc}
 use lib.ListN.{length}
 use Rattle.proof_integer.specs.Vector.{length-tabulate}
 use Rattle.rules.specs.Problem.{Problem}
-use Rattle.rules.specs.Step.{lookFrom, next}
-use Rattle.rules.specs.Run.{start, stateAfter, lookAt}
+use Rattle.rules.specs.Step.{lookAt, next}
+use Rattle.rules.specs.Run.{start, stateAfter, lookAfter}
 
 module _ (P : Problem) where
   pub multipliers-length : (t : ℕ) → length (stateAfter P t .multipliers) ≡ P .limits
@@ -23,10 +23,10 @@ module _ (P : Problem) where
   totals-length zero = length-tabulate (P .limits) _
   totals-length (suc t) = length-tabulate (P .limits) _
 
-  pub amounts-length : (t : ℕ) → length (lookAt P t .amounts) ≡ P .materials
-  unfolding lookAt lookFrom
+  pub amounts-length : (t : ℕ) → length (lookAfter P t .amounts) ≡ P .materials
+  unfolding lookAfter lookAt
   amounts-length t = length-tabulate (P .materials) _
 
-  pub residuals-length : (t : ℕ) → length (lookAt P t .residuals) ≡ P .limits
-  unfolding lookAt lookFrom
+  pub residuals-length : (t : ℕ) → length (lookAfter P t .residuals) ≡ P .limits
+  unfolding lookAfter lookAt
   residuals-length t = length-tabulate (P .limits) _

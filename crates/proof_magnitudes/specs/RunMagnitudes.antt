@@ -17,7 +17,7 @@ use Rattle.rules.specs.Notation.{at}
 use Rattle.rules.specs.Problem.{Problem}
 use Rattle.rules.specs.Sheet.{sheetOf, problem}
 use Rattle.rules.specs.Step.{greatestCost, cheapestCost, infeasible, next, diverged}
-use Rattle.rules.specs.Run.{startingMultiplier, start, stateAfter, lookAt, lowAfter, gapOf}
+use Rattle.rules.specs.Run.{startingMultiplier, start, stateAfter, lookAfter, lowAfter, gapOf}
 use Rattle.rules.specs.Refusals.{firstBelow, layoutRefusal}
 use Rattle.rules.specs.Answers.{refusalAt, stepRefusal}
 use Rattle.proof_magnitudes.specs.Minimal.{minimal-within}
@@ -50,7 +50,7 @@ pub record RunMagnitudes (P : Problem) (t : ℕ) : Type 0 where
 
 -- where steps 0 to t are not refused, neither are steps 0 to t−1, and step t meets neither rule 3 nor rule 4
 not-refused : (P : Problem) (t : ℕ) → stepRefusal P (suc t) ≡ none
-    → (stepRefusal P t ≡ none) × T (not (infeasible P (lookAt P t))) × T (not (diverged P (stateAfter P (suc t))))
+    → (stepRefusal P t ≡ none) × T (not (infeasible P (lookAfter P t))) × T (not (diverged P (stateAfter P (suc t) .multipliers)))
 unfolding stepRefusal refusalAt firstBelow
 not-refused P t h =
     let (before, here) = otherwise-none _ _ h in
@@ -58,9 +58,9 @@ not-refused P t h =
     (before, refuse-none _ _ _ nine, refuse-none _ _ _ ten)
 
 -- a step that does not meet rule 3 keeps low in the range of the costs
-low-next : (P : Problem) (t : ℕ) → InCostRange P (stateAfter P t .lowerBound) → T (not (infeasible P (lookAt P t)))
+low-next : (P : Problem) (t : ℕ) → InCostRange P (stateAfter P t .lowerBound) → T (not (infeasible P (lookAfter P t)))
     → InCostRange P (stateAfter P (suc t) .lowerBound)
-unfolding stateAfter next infeasible lookAt
+unfolding stateAfter next infeasible lookAfter
 low-next P t r feasible = record { above = ≤ℤ-trans (r .above) (max-left _ _); below = max-least (r .below) (ltZ-no feasible) }
 
 module _ {P : Problem} {k : ℕ} (a : Accepted P k) where

@@ -7,8 +7,8 @@ use Rattle.proof_integer.specs.Order.{max-left}
 use Rattle.proof_integer.specs.Vector.{at-tabulate}
 use Rattle.rules.specs.Notation.{sumTo, at}
 use Rattle.rules.specs.Problem.{Problem}
-use Rattle.rules.specs.Step.{reducedCost, amount, residual, lookFrom, moved, next}
-use Rattle.rules.specs.Run.{startingMultiplier, start, stateAfter, lookAt}
+use Rattle.rules.specs.Step.{reducedCost, amount, residual, lookAt, moved, next}
+use Rattle.rules.specs.Run.{startingMultiplier, start, stateAfter, lookAfter}
 use Rattle.proof_magnitudes.specs.Minimal.{AllMinimal, rule-minimal}
 
 module _ (P : Problem) where
@@ -17,22 +17,22 @@ module _ (P : Problem) where
   entering t = at (stateAfter P t .multipliers)
 
   abbrev pub amounts : ℕ → ℕ → ℤ
-  amounts t = at (lookAt P t .amounts)
+  amounts t = at (lookAfter P t .amounts)
 
   abbrev pub residuals : ℕ → ℕ → ℤ
-  residuals t = at (lookAt P t .residuals)
+  residuals t = at (lookAfter P t .residuals)
 
   -- ---- what a step works out, by its formulas
   amounts-are : (t j : ℕ) → j < P .materials → amounts t j ≡ amount P (entering t) j
-  unfolding lookAt lookFrom
+  unfolding lookAfter lookAt
   amounts-are t j l = at-tabulate (P .materials) (amount P (entering t)) j l
 
   pub residuals-are : (t i : ℕ) → i < P .limits → residuals t i ≡ residual P (amounts t) i
-  unfolding lookAt lookFrom
+  unfolding lookAfter lookAt
   residuals-are t i l = at-tabulate (P .limits) (residual P (amounts t)) i l
 
   pub leaving : (t i : ℕ) → i < P .limits → entering (suc t) i ≡ moved P (entering t) (residuals t) i
-  unfolding stateAfter next lookAt
+  unfolding stateAfter next lookAfter
   leaving t i l = at-tabulate (P .limits) (moved P (entering t) (residuals t)) i l
 
   -- ---- its amounts are minimal, by rule 1
@@ -45,12 +45,12 @@ module _ (P : Problem) where
 
   -- ---- the totals
   pub sums-are : (k j : ℕ) → j < P .materials → at (stateAfter P k .sums) j ≡ sumTo k (λ t. amounts t j)
-  unfolding stateAfter start next sumTo lookAt
+  unfolding stateAfter start next sumTo lookAfter
   sums-are zero j l = at-tabulate (P .materials) (λ _. pos 0) j l
   sums-are (suc k) j l = at-tabulate (P .materials) (λ j. at (stateAfter P k .sums) j +ℤ amounts k j) j l ∙ rw (sums-are k j l)
 
   pub totals-are : (k i : ℕ) → i < P .limits → at (stateAfter P k .residualTotals) i ≡ sumTo k (λ t. residual P (amounts t) i)
-  unfolding stateAfter start next sumTo lookAt
+  unfolding stateAfter start next sumTo lookAfter
   totals-are zero i l = at-tabulate (P .limits) (λ _. pos 0) i l
   totals-are (suc k) i l =
       at-tabulate (P .limits) (λ i. at (stateAfter P k .residualTotals) i +ℤ residuals k i) i l ∙ rw (totals-are k i l, residuals-are k i l)

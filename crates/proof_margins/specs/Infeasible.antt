@@ -8,8 +8,8 @@ use lib.Dec.{T, eqb}
 use lib.Signed.{ltZ-yes}
 use Rattle.rules.specs.Problem.{Problem, NoneFeasible}
 use Rattle.rules.specs.Sheet.{sheetOf, problem}
-use Rattle.rules.specs.Step.{lookFrom, infeasible}
-use Rattle.rules.specs.Run.{lookAt}
+use Rattle.rules.specs.Step.{lookAt, infeasible}
+use Rattle.rules.specs.Run.{lookAfter}
 use Rattle.rules.specs.Refusals.{Numbered, refuse, _otherwise_, firstBelow, layoutRefusal, refusalBeforeSteps}
 use Rattle.rules.specs.Answers.{refusalAt, stepRefusal, refusal}
 use Rattle.proof_laws.specs.NotRefused.{otherwise-none}
@@ -46,8 +46,8 @@ module _ (P : Problem) where
 
 -- ---- the steps, by rule 3
 module _ (P : Problem) (start-sign : StartSign P) where
-  infeasible-step : (t : ℕ) → T (infeasible P (lookAt P t)) → NoneFeasible P
-  unfolding infeasible lookAt lookFrom
+  infeasible-step : (t : ℕ) → T (infeasible P (lookAfter P t)) → NoneFeasible P
+  unfolding infeasible lookAfter lookAt
   infeasible-step t above = none-feasible (facts P start-sign t) (ltZ-yes above)
 
   steps-margins : (k : ℕ) → RefusalMargins P (stepRefusal P k)

@@ -6,8 +6,8 @@ use lib.Signed.{_≤ℤ_}
 use Rattle.proof_integer.specs.Order.{≤ℤ-trans, max-cases, max-left, max-right}
 use Rattle.rules.specs.Notation.{maxℤ}
 use Rattle.rules.specs.Problem.{Problem, Feasible, costOf}
-use Rattle.rules.specs.Step.{amount, residual, dualValue, lookFrom, moved, next}
-use Rattle.rules.specs.Run.{startingMultiplier, start, stateAfter, lookAt, lowAfter}
+use Rattle.rules.specs.Step.{amount, residual, dualValue, lookAt, moved, next}
+use Rattle.rules.specs.Run.{startingMultiplier, start, stateAfter, lookAfter, lowAfter}
 use Rattle.proof_laws.specs.Places.{below-zero, below-suc}
 use Rattle.proof_magnitudes.specs.Steps.{entering, amounts, residuals-are, leaving, rule-1, amounts-minimal, StartSign, entering-sign}
 use Rattle.proof_margins.specs.FourFacts.{FourFacts, Steps, four-facts}
@@ -21,10 +21,10 @@ module _ (P : Problem) where
 
   -- ---- no dual value of the steps is above low
   pub low-above-values : (k t : ℕ) → t < k → dualValue P (entering P t) (amounts P t) ≤ℤ lowAfter P k
-  unfolding lowAfter stateAfter next lookAt lookFrom
+  unfolding lowAfter stateAfter next lookAfter lookAt
   low-above-values zero = below-zero (λ t. dualValue P (entering P t) (amounts P t) ≤ℤ stateAfter P 0 .lowerBound)
   low-above-values (suc k) =
-      below-suc k (λ t. dualValue P (entering P t) (amounts P t) ≤ℤ maxℤ (stateAfter P k .lowerBound) (lookAt P k .dualValue))
+      below-suc k (λ t. dualValue P (entering P t) (amounts P t) ≤ℤ maxℤ (stateAfter P k .lowerBound) (lookAfter P k .dualValue))
       (λ t l. ≤ℤ-trans (low-above-values k t l) (max-left (stateAfter P k .lowerBound) _))
       (max-right (stateAfter P k .lowerBound) _)
 
@@ -40,7 +40,7 @@ module _ (P : Problem) (start-sign : StartSign P) where
 
   -- low is above the cost of no feasible point
   pub low-below-costs : (k : ℕ) (d : ℤ) (y : ℕ → ℤ) → Feasible P d y → (d *ℤ lowAfter P k) ≤ℤ (pos (P .scale) *ℤ costOf P y)
-  unfolding lowAfter stateAfter start next lookAt lookFrom
+  unfolding lowAfter stateAfter start next lookAfter lookAt
   low-below-costs zero =
       let M = startingMultiplier P in
       weak-duality (four-facts P M (amount P M) (moved P M (residual P (amount P M))) (rule-1 P M) start-sign (λ _ _. refl))

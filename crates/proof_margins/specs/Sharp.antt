@@ -8,7 +8,7 @@ use lib.Signed.{_≤ℤ_, leZ-yes}
 use Rattle.rules.specs.Notation.{neg, maxℤ, sumTo, at}
 use Rattle.rules.specs.Problem.{Problem, NoneFeasible}
 use Rattle.rules.specs.Step.{reducedCost, dualValue}
-use Rattle.rules.specs.Run.{lookAt}
+use Rattle.rules.specs.Run.{lookAfter}
 use Rattle.rules.specs.Margins.{square, PlanMargins, Margins}
 use Rattle.rules.specs.Rows.{Holds}
 use Rattle.rules.specs.Marked.{C1, C2, C3}
@@ -96,7 +96,7 @@ unfolding Holds
 residuals-below-opening claim = claim .le
 
 pub squares-of-one-step-less :
-    squares-left P₂ 1 (pos 0) ≤ℤ (square (pos (P₂ .numerator)) *ℤ sumTo 0 (λ t. norm² P₂ (at (lookAt P₂ t .residuals))))
+    squares-left P₂ 1 (pos 0) ≤ℤ (square (pos (P₂ .numerator)) *ℤ sumTo 0 (λ t. norm² P₂ (at (lookAfter P₂ t .residuals))))
     → ⊥
 unfolding Holds
 squares-of-one-step-less claim = claim .le

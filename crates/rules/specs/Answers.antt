@@ -8,7 +8,7 @@ use Rattle.rules.specs.declared.Answer.{Answer}
 use Rattle.rules.specs.Problem.{Problem}
 use Rattle.rules.specs.Sheet.{sheetOf, problem}
 use Rattle.rules.specs.Step.{infeasible, diverged}
-use Rattle.rules.specs.Run.{Plan, stateAfter, lookAt, planAfter}
+use Rattle.rules.specs.Run.{Plan, stateAfter, lookAfter, planAfter}
 use Rattle.rules.specs.Record.{recordOf, recordLength}
 use Rattle.rules.specs.Refusals.{Numbered, numbered, refuse, _otherwise_, firstBelow, refusalBeforeSteps}
 
@@ -22,9 +22,11 @@ unfoldable pub outcome : Answer → Outcome
 outcome (Answer.Plan low gap) = plan low gap
 outcome (Answer.Refused r) = refused (numbered r)
 
--- Refusals 9 and 10 at step t, 9 before 10: of what the step works out, and of the state that it hands back. The place is the step's number.
+-- Refusals 9 and 10 at step t, 9 before 10: of what the step works out, and of the multipliers after it. The place is the step's
+-- number.
 unfoldable pub refusalAt : Problem → ℕ → Option Numbered
-refusalAt P t = refuse 9 t (infeasible P (lookAt P t)) otherwise refuse 10 t (diverged P (stateAfter P (suc t)))
+refusalAt P t =
+    refuse 9 t (infeasible P (lookAfter P t)) otherwise refuse 10 t (diverged P (stateAfter P (suc t) .multipliers))
 
 -- the refusal of the first of k steps that is refused
 unfoldable pub stepRefusal : Problem → ℕ → Option Numbered

@@ -7,7 +7,7 @@ use lib.Signed.{_≤ℤ_}
 use Rattle.rules.specs.Notation.{sumTo, at}
 use Rattle.rules.specs.Problem.{Problem, costOf, Feasible, NoneFeasible}
 use Rattle.rules.specs.Sheet.{sheetOf, problem}
-use Rattle.rules.specs.Run.{lookAt, planAfter}
+use Rattle.rules.specs.Run.{lookAfter, planAfter}
 use Rattle.rules.specs.Answers.{Outcome, plan, refused}
 
 abbrev pub square : ℤ → ℤ
@@ -26,7 +26,7 @@ pub record PlanMargins (P : Problem) (k : ℕ) (low gap : ℤ) : Type 0 where
   -- 2·p·gap + Σ_i (closing multiplier)² ≤ p²·Σ_t Σ_i residual², over steps 0 to k−1
   pub squares :
       (pos 2 *ℤ pos (P .numerator) *ℤ gap +ℤ sumTo (P .limits) (λ i. square (at (planAfter P k .multipliers) i)))
-      ≤ℤ (square (pos (P .numerator)) *ℤ sumTo k (λ t. sumTo (P .limits) (λ i. square (at (lookAt P t .residuals) i))))
+      ≤ℤ (square (pos (P .numerator)) *ℤ sumTo k (λ t. sumTo (P .limits) (λ i. square (at (lookAfter P t .residuals) i))))
 
 -- Demand 3: a plan has its margins; and where the answer is refusal 9 ("no blend"), whatever its place, there is no feasible point.
 unfoldable pub Margins : List ℕ → Outcome → Type 0

@@ -8,7 +8,7 @@ use Rattle.rules.specs.declared.Cause.the-variants.{Bounds, Infeasible, 
 use Rattle.rules.specs.Problem.{Problem}
 use Rattle.rules.specs.Sheet.{sheetOf, problem}
 use Rattle.rules.specs.Step.{reducedCost, greatestCost, cheapestCost}
-use Rattle.rules.specs.Run.{stateAfter, lookAt}
+use Rattle.rules.specs.Run.{stateAfter, lookAfter}
 use Rattle.rules.specs.Listing.{text}
 use Rattle.rules.specs.Rows.{Entry, _∶_, encode, hex, Row, Holds, All}
 
@@ -136,7 +136,7 @@ pub multipliers-C1 : map (λ t. at (stateAfter problem-C1 t .multipliers) 0) (0 
 unfolding Holds
 multipliers-C1 = refl
 
-pub values-C1 : map (λ t. lookAt problem-C1 t .dualValue) (0 ∷ 1 ∷ 2 ∷ 3 ∷ []) ≡ pos 0 ∷ pos 104 ∷ pos 68 ∷ pos 0 ∷ []
+pub values-C1 : map (λ t. lookAfter problem-C1 t .dualValue) (0 ∷ 1 ∷ 2 ∷ 3 ∷ []) ≡ pos 0 ∷ pos 104 ∷ pos 68 ∷ pos 0 ∷ []
 unfolding Holds
 values-C1 = refl
 
@@ -148,7 +148,7 @@ tie-C1 = refl
 abbrev problem-C3 : Problem
 problem-C3 = problem (sheetOf (C3 .sheet))
 
-pub value-C3 : lookAt problem-C3 1 .dualValue ≡ pos 21
+pub value-C3 : lookAfter problem-C3 1 .dualValue ≡ pos 21
 unfolding Holds
 value-C3 = refl
 
@@ -156,7 +156,7 @@ pub greatest-C3 : greatestCost problem-C3 ≡ pos 1
 unfolding Holds
 greatest-C3 = refl
 
--- C8: the cheapest cost is that of 3, −6, and low is as large
+-- the cheapest cost that the bounds of C8 allow, which is its low
 pub cheapest-C8 : cheapestCost (problem (sheetOf (C8 .sheet))) ≡ neg 6
 unfolding Holds
 cheapest-C8 = refl

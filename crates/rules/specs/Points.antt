@@ -11,7 +11,7 @@ use lib.Signed.{_≤ℤ_, leZ-yes, ltZ-yes}
 use Rattle.rules.specs.Notation.{neg, sumTo, at}
 use Rattle.rules.specs.Problem.{Problem, Feasible, NoneFeasible}
 use Rattle.rules.specs.Sheet.{sheetOf, problem}
-use Rattle.rules.specs.Run.{lookAt, planAfter}
+use Rattle.rules.specs.Run.{lookAfter, planAfter}
 use Rattle.rules.specs.Answers.{plan, refused, answer}
 use Rattle.rules.specs.Margins.{square, PlanMargins, Margins}
 use Rattle.rules.specs.Rows.{_∶_, encode, Holds}
@@ -171,7 +171,7 @@ module _ (P : Problem) (k : ℕ) where
 
   abbrev pub squares-right : ℤ
   squares-right =
-      square (pos (P .numerator)) *ℤ sumTo k (λ t. sumTo (P .limits) (λ i. square (at (lookAt P t .residuals) i)))
+      square (pos (P .numerator)) *ℤ sumTo k (λ t. sumTo (P .limits) (λ i. square (at (lookAfter P t .residuals) i)))
 
 -- ---- C2, with gap 0: 12 ≤ 12, and 0 + 12² ≤ 12²
 abbrev pub P₂ : Problem

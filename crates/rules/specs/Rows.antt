@@ -13,8 +13,8 @@ use Rattle.rules.specs.Problem.{costOf, loadOf}
 use Rattle.rules.specs.Bytes.{unsignedAt, signedOf, signedAt, unsignedBytes, signedBytes}
 use Rattle.rules.specs.Sheet.{valueUnder, figure, problem}
 use Rattle.rules.specs.Ranges.{ranges, indexOf, rangeOf, kindAt, inRange, between, dimensionsInRange, parametersInRange}
-use Rattle.rules.specs.Step.{anyBelow, reducedCost, amount, residual, dualValue, lookFrom, greatestCost, cheapestCost, infeasible, moved, next, diverged}
-use Rattle.rules.specs.Run.{startingMultiplier, start, stateAfter, lookAt, lowAfter, gapOf, planAfter}
+use Rattle.rules.specs.Step.{anyBelow, reducedCost, amount, residual, dualValue, lookAt, greatestCost, cheapestCost, infeasible, moved, next, diverged}
+use Rattle.rules.specs.Run.{startingMultiplier, start, stateAfter, lookAfter, lowAfter, gapOf, planAfter}
 use Rattle.rules.specs.Record.{fields, recordOf, recordLength, recorded, holdsRecord}
 use Rattle.rules.specs.Refusals.{numberOf, numbered, refuse, _otherwise_, firstBelow, noFigureAt, notAbove, badKey, badValue, crossed, layoutRefusal, refusalBeforeSteps}
 use Rattle.rules.specs.Answers.{outcome, refusalAt, stepRefusal, refusal, planOf, outcomeOf, answer, bufferOf, bufferAfter}
@@ -73,7 +73,7 @@ lent room = replicate room 170
 
 -- What the definitions give is what the row says: the answer, the buffer afterwards, the listing, and the listing out of answer and buffer. Whoever unfolds it computes with them all.
 unfoldable pub Holds : Row → Type 0
-unfolding sizes encode nibble unspaced pairs outcome numbered numberOf maxℤ sumTo tabulate costOf loadOf unsignedAt signedOf signedAt unsignedBytes signedBytes valueUnder figure problem ranges indexOf rangeOf kindAt inRange between dimensionsInRange parametersInRange anyBelow reducedCost amount residual dualValue lookFrom greatestCost cheapestCost infeasible moved next diverged startingMultiplier start stateAfter lookAt lowAfter gapOf planAfter fields recordOf recordLength recorded holdsRecord refuse _otherwise_ firstBelow noFigureAt notAbove badKey badValue crossed layoutRefusal refusalBeforeSteps refusalAt stepRefusal refusal planOf outcomeOf answer bufferOf bufferAfter text digits decimal spaced line lines planText refusalText textOf listing textFrom
+unfolding sizes encode nibble unspaced pairs outcome numbered numberOf maxℤ sumTo tabulate costOf loadOf unsignedAt signedOf signedAt unsignedBytes signedBytes valueUnder figure problem ranges indexOf rangeOf kindAt inRange between dimensionsInRange parametersInRange anyBelow reducedCost amount residual dualValue lookAt greatestCost cheapestCost infeasible moved next diverged startingMultiplier start stateAfter lookAfter lowAfter gapOf planAfter fields recordOf recordLength recorded holdsRecord refuse _otherwise_ firstBelow noFigureAt notAbove badKey badValue crossed layoutRefusal refusalBeforeSteps refusalAt stepRefusal refusal planOf outcomeOf answer bufferOf bufferAfter text digits decimal spaced line lines planText refusalText textOf listing textFrom
 Holds r =
     (answer (r .sheet) (r .room) ≡ outcome (r .answer)) ×
     (bufferAfter (r .sheet) (lent (r .room)) ≡ r .bytes ++ drop (length (r .bytes)) (lent (r .room))) ×

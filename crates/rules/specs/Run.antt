@@ -4,7 +4,7 @@ use mathlib.Core.List.{List}
 use lib.IntN.{ℤ, pos, _-ℤ_, _*ℤ_}
 use Rattle.rules.specs.Notation.{tabulate, at}
 use Rattle.rules.specs.Problem.{Problem, costOf}
-use Rattle.rules.specs.Step.{State, Look, amount, dualValue, lookFrom, next}
+use Rattle.rules.specs.Step.{State, Look, amount, dualValue, lookAt, next}
 
 -- The figures of a plan, as the record and the listing give them.
 pub record Plan : Type 0 where
@@ -43,8 +43,8 @@ module _ (P : Problem) where
   stateAfter (suc t) = next P (stateAfter t)
 
   -- the look at the multipliers after t steps: what step t works out
-  unfoldable pub lookAt : ℕ → Look
-  lookAt t = lookFrom P (stateAfter t)
+  unfoldable pub lookAfter : ℕ → Look
+  lookAfter t = lookAt P (at (stateAfter t .multipliers))
 
   -- low after k steps: the largest dual value of steps 0 to k−1
   unfoldable pub lowAfter : ℕ → ℤ

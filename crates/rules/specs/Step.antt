@@ -19,7 +19,7 @@ pub record State : Type 0 where
   -- low: the largest step value
   pub lowerBound : ℤ
 
--- What a look at the multipliers of a state gives.
+-- What a look at multipliers gives.
 pub record Look : Type 0 where
   -- the step amounts
   pub amounts : List ℤ
@@ -51,10 +51,9 @@ module _ (P : Problem) where
   unfoldable pub dualValue : (ℕ → ℤ) → (ℕ → ℤ) → ℤ
   dualValue M x = pos (P .scale) *ℤ costOf P x +ℤ sumTo (P .limits) (λ i. M i *ℤ residual x i)
 
-  -- the look at the multipliers of state w
-  unfoldable pub lookFrom : State → Look
-  lookFrom w =
-      let M = at (w .multipliers) in
+  -- the look at multipliers M
+  unfoldable pub lookAt : (ℕ → ℤ) → Look
+  lookAt M =
       let x = tabulate (P .materials) (amount M) in
       record {
         amounts = x;
@@ -81,7 +80,7 @@ module _ (P : Problem) where
   -- the state that the step from w hands back: all multipliers from the old ones, and the totals with this step's
   unfoldable pub next : State → State
   next w =
-      let q = lookFrom w in
+      let q = lookAt (at (w .multipliers)) in
       record {
         multipliers = tabulate (P .limits) (moved (at (w .multipliers)) (at (q .residuals)));
         sums = tabulate (P .materials) (λ j. at (w .sums) j +ℤ at (q .amounts) j);
@@ -89,6 +88,6 @@ module _ (P : Problem) where
         lowerBound = maxℤ (w .lowerBound) (q .dualValue);
       }
 
-  -- refusal 10: a multiplier of the state that the step hands back is above 1,073,741,824
-  unfoldable pub diverged : State → Bool
-  diverged w = anyBelow (P .limits) (λ i. ltZ (pos 1073741824) (at (w .multipliers) i))
+  -- refusal 10: one of the multipliers after the step is above 1,073,741,824
+  unfoldable pub diverged : List ℤ → Bool
+  diverged multipliers = anyBelow (P .limits) (λ i. ltZ (pos 1073741824) (at multipliers i))

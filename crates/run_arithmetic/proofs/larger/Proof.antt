@@ -3,8 +3,8 @@ use mathlib.Core.Path.{_≡_}
 use mathlib.Core.Bool.{true, false}
 use lib.Signed.{leZ}
 use mir.Facts.{toZ-ofZ}
-use Rattle.run_steps.proofs.larger.Statement.{statement}
-use Rattle.run_steps.proofs.larger.Tie as tie
+use Rattle.run_arithmetic.proofs.larger.Statement.{statement}
+use Rattle.run_arithmetic.proofs.larger.Tie as tie
 use Rattle.rules.specs.Notation.{maxℤ}
 
 returns : tie.Need-returns
