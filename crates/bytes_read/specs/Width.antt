@@ -3,7 +3,7 @@ use Prim.Native.Nat.{ℕ, zero, suc, _+_, _-_, _*_, _/_, _^_, _≤_, _<_}
 use mathlib.Core.Path.{_≡_, refl, ap}
 use mathlib.Core.Bool.{Bool, true, false}
 use mathlib.Core.List.{List}
-use native.Mathlib.Nat.{pow-succ', mul-assoc, add-assoc, add-zero, zero-add, one-mul, suc-add}
+use native.Mathlib.Nat.{pow-succ', pow-le-pow-right, one-le-pow, add-assoc, add-zero}
 use native.Mathlib.Omega.{arith}
 use lib.Dec.{ltb}
 use lib.IntN.{pos, negsuc, _-ℤ_}
@@ -14,14 +14,7 @@ use mir.Syntax.{w8}
 use mir.Val.{Fits}
 use borrow.Author.Tests.{ltb-true, ltb-false, lt-ltb, le-ltb}
 use Rattle.rules.specs.Bytes.{unsignedAt, signedOf}
-
--- v + w bytes are v bytes and the w after them
-pub joined : (v w : ℕ) (s : List ℕ) (o : ℕ) → unsignedAt (v + w) s o ≡ unsignedAt v s o + 256 ^ v * unsignedAt w s (o + v)
-unfolding unsignedAt
-joined zero w s o = simp (zero-add, add-zero, one-mul)
-joined (suc v) w s o =
-    let next : o + 1 + v ≡ o + suc v = omega arith in
-    rw (suc-add, joined v w s (o + 1), next, pow-succ' 256 v, mul-assoc 256 (256 ^ v) (unsignedAt w s (o + suc v))) (omega arith)
+use Rattle.bytes_read.specs.Inside.{Width}
 
 -- the number from place a + o on is the one from place o on, once a bytes are dropped
 pub unsigned-drop : (w : ℕ) (s : List ℕ) (a o : ℕ) → unsignedAt w s (a + o) ≡ unsignedAt w (drop a s) o
@@ -63,3 +56,20 @@ signed-below w v h = by (ltb v (256 ^ suc w / 2)) refl
     by false t =
         let l = ltb-false v (256 ^ suc w / 2) t in
         rw (signed-upper (suc w) v l h) (omega (arith, pow-succ' 256 w))
+
+-- half of 256^w, of 1 to 8 bytes
+pub record Halved (w : ℕ) : Type 0 where
+  pub some : 0 < 256 ^ w / 2
+  pub twice : 256 ^ w / 2 + 256 ^ w / 2 ≡ 256 ^ w
+  pub bounded : 256 ^ w / 2 ≤ 9223372036854775808
+
+pub halved : (w : ℕ) → Width w → Halved w
+halved zero h = absurd (omega arith)
+halved (suc w) h =
+    let power = pow-le-pow-right {n = 256} (omega arith) {i = suc w} {j = 8} (h .narrow) in
+    let positive = one-le-pow w 256 (omega arith) in
+    record {
+      some = omega (arith, pow-succ' 256 w);
+      twice = omega (arith, pow-succ' 256 w);
+      bounded = omega (arith, power);
+    }

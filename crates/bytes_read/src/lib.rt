@@ -1,88 +1,77 @@
 // Little-endian numbers out of a slice of bytes.
 ghost use mathlib.Core.Path.{_≡_};
-ghost use Prim.Native.Nat.{_<_};
+ghost use Prim.Native.Nat.{_/_, _^_};
 ghost use Rattle.rules.specs.Bytes.{unsignedAt, signedOf, signedAt};
-ghost use Rattle.bytes_read.specs.Inside.{Inside, Size};
+ghost use Rattle.bytes_read.specs.Inside.{Width, Inside, Number, InWidth};
 
-// A byte in 16 bits.
-fn wide_16(b: u8) -> u16
-    ensures { λ r. ⌜ (r ≡ b) × (r < 256) ⌝ }
-{
-    b as u16
-}
+// Half of the numbers that 0 to 8 bytes have: those from it on are negative.
+const HALVES: [u64; 9] = [
+    0,
+    128,
+    32768,
+    8388608,
+    2147483648,
+    549755813888,
+    140737488355328,
+    36028797018963968,
+    9223372036854775808,
+];
 
-// The unsigned number in the 2 bytes from place `at` on.
-fn unsigned_16(s: &[u8], at: usize) -> u16
-    requires { ⌜ Inside 2 (now s) at ⌝ }
-    ensures { λ r. ⌜ r ≡ unsignedAt 2 (now (s .entry)) at ⌝ }
+// The unsigned number in the `width` bytes from place `at` on.
+pub fn unsigned_at(s: &[u8], at: usize, width: usize) -> u64
+    requires { ⌜ Inside width (now s) at ⌝ }
+    ensures { λ r. ⌜ Number width (now (s .entry)) at r ⌝ }
 {
-    let low = wide_16(s[at]);
-    let high = wide_16(s[at + 1]);
-    low + 256 * high
-}
-
-// The same number as a size, a count or a place.
-pub fn size_at(s: &[u8], at: usize) -> usize
-    requires { ⌜ Inside 2 (now s) at ⌝ }
-    ensures { λ r. ⌜ Size (now (s .entry)) at r ⌝ }
-{
-    unsigned_16(s, at) as usize
-}
-
-// The unsigned number in the 4 bytes from place `at` on.
-fn unsigned_32(s: &[u8], at: usize) -> u32
-    requires { ⌜ Inside 4 (now s) at ⌝ }
-    ensures { λ r. ⌜ r ≡ unsignedAt 4 (now (s .entry)) at ⌝ }
-{
-    let low = unsigned_16(s, at) as u32;
-    let high = unsigned_16(s, at + 2) as u32;
-    low + 65536 * high
-}
-
-// The unsigned number in the 8 bytes from place `at` on.
-fn unsigned_64(s: &[u8], at: usize) -> u64
-    requires { ⌜ Inside 8 (now s) at ⌝ }
-    ensures { λ r. ⌜ r ≡ unsignedAt 8 (now (s .entry)) at ⌝ }
-{
-    let low = unsigned_32(s, at) as u64;
-    let high = unsigned_32(s, at + 4) as u64;
-    low + 4294967296 * high
-}
-
-// 32 bits as a signed number.
-fn signed_of_32(v: u32) -> i32
-    ensures { λ r. ⌜ r ≡ signedOf 4 v ⌝ }
-{
-    if v < 2147483648 {
-        v as i32
-    } else {
-        -1 - ((4294967295 - v) as i32)
+    let mut value: u64 = 0;
+    let mut left = width;
+    while 0 < left {
+        left -= 1;
+        value = 256 * value + s[at + left] as u64;
     }
+    value
 }
 
-// 64 bits as a signed number.
-fn signed_of_64(v: u64) -> i64
-    ensures { λ r. ⌜ r ≡ signedOf 8 v ⌝ }
+// Half of 256^width.
+fn half(width: usize) -> u64
+    requires { ⌜ Width width ⌝ }
+    ensures { λ r. ⌜ r ≡ 256 ^ width / 2 ⌝ }
 {
-    if v < 9223372036854775808 {
+    HALVES[width]
+}
+
+// The number v of `width` bytes as a signed one, in two's complement.
+fn signed_of(v: u64, width: usize) -> i64
+    requires { ⌜ InWidth width v ⌝ }
+    ensures { λ r. ⌜ r ≡ signedOf width v ⌝ }
+{
+    let middle = half(width);
+    if v < middle {
         v as i64
     } else {
-        -1 - ((18446744073709551615 - v) as i64)
+        -1 - ((middle - 1 + middle - v) as i64)
     }
 }
 
-// The signed number in the 4 bytes from place `at` on.
+// The signed number in the `width` bytes from place `at` on.
+pub fn signed_at(s: &[u8], at: usize, width: usize) -> i64
+    requires { ⌜ Inside width (now s) at ⌝ }
+    ensures { λ r. ⌜ r ≡ signedAt width (now (s .entry)) at ⌝ }
+{
+    signed_of(unsigned_at(s, at, width), width)
+}
+
+// The signed number in the 4 bytes from place `at` on, in 32 bits.
 pub fn signed_32(s: &[u8], at: usize) -> i32
     requires { ⌜ Inside 4 (now s) at ⌝ }
     ensures { λ r. ⌜ r ≡ signedAt 4 (now (s .entry)) at ⌝ }
 {
-    signed_of_32(unsigned_32(s, at))
+    signed_at(s, at, 4) as i32
 }
 
-// The signed number in the 8 bytes from place `at` on.
-pub fn signed_64(s: &[u8], at: usize) -> i64
-    requires { ⌜ Inside 8 (now s) at ⌝ }
-    ensures { λ r. ⌜ r ≡ signedAt 8 (now (s .entry)) at ⌝ }
+// The unsigned number in the 2 bytes from place `at` on, as a size, a count or a place.
+pub fn size_at(s: &[u8], at: usize) -> usize
+    requires { ⌜ Inside 2 (now s) at ⌝ }
+    ensures { λ r. ⌜ Number 2 (now (s .entry)) at r ⌝ }
 {
-    signed_of_64(unsigned_64(s, at))
+    unsigned_at(s, at, 2) as usize
 }

@@ -1,11 +1,14 @@
 -- A number of w bytes: what writing it asks, and how many bytes it has.
-use mathlib.Core.Path.{_≡_, refl, ap}
-use mathlib.Core.List.{List}
-use Prim.Native.Nat.{ℕ, zero, suc, _-_, _/_, _^_, _≤_, _<_}
+use mathlib.Core.Path.{_≡_, refl, sym, ap}
+use mathlib.Core.List.{List, [], _∷_}
+use Prim.Native.Nat.{ℕ, zero, suc, _-_, _*_, _/_, _^_, _≤_, _<_}
+use native.Mathlib.Nat.{mul-zero, mul-suc}
+use native.Mathlib.Omega.{arith}
 use lib.IntN.{ℤ, pos, negsuc}
-use lib.ListN.{length}
+use lib.ListN.{length, length-append}
 use lib.Signed.{mag}
 use Rattle.rules.specs.Bytes.{unsignedBytes, signedBytes}
+use Rattle.rules.specs.Record.{fields}
 
 -- an unsigned number asks for room
 pub record Room (w : ℕ) (d : List ℕ) : Type 0 where
@@ -32,3 +35,9 @@ pub length-signed : (w : ℕ) (v : ℤ) → length (signedBytes w v) ≡ w
 unfolding signedBytes
 length-signed w (pos v) = length-unsigned w v
 length-signed w (negsuc v) = length-unsigned w (256 ^ w - suc v)
+
+-- figures of w bytes each
+pub length-fields : (w : ℕ) (zs : List ℤ) → length (fields w zs) ≡ w * length zs
+unfolding fields
+length-fields w [] = sym (mul-zero w)
+length-fields w (z ∷ zs) = rw (length-append, length-signed, length-fields w zs, mul-suc) (omega arith)
