@@ -49,5 +49,6 @@ sheet-lies input at after {start} {end} found = by-test (leb (last + after) (len
     by-test true whole e =
         let start-is : start ≡ at + 2 = cc in
         let end-is : end ≡ last = cc in
-        record { starts = start-is; ordered = omega arith; inside = omega (arith, leb-true (last + after) (length input) whole) }
+        let inside : last + after ≤ length input = leb-true _ _ whole in
+        record { starts = start-is; ordered = omega arith; inside = omega arith }
     by-test false _ e = let z : _≡_ {A = ℕ} 0 1 = cc in absurd (omega arith)

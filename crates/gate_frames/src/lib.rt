@@ -1,6 +1,7 @@
 // What the programs of the gate share: where the sheets lie in their input, and the writing of a line.
 //
-// A sheet comes in a frame: its length in 2 bytes, little-endian; its bytes; and so many bytes more as the program wants after it.
+// A sheet comes in a frame: its length in 2 bytes, little-endian; its bytes; and as many bytes more as the program
+// wants.
 use bytes_read::size_at;
 use libc::STDOUT_FILENO;
 ghost use mathlib.Core.Path.{_≡_};

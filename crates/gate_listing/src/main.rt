@@ -1,6 +1,6 @@
 // Prints the listing of each sheet of standard input.
 //
-// A sheet comes in a frame: its length in 2 bytes, little-endian, and then its bytes. A frame that is cut short ends the run.
+// A sheet comes in a frame (see `gate_frames`) with nothing after it. A frame that is cut short ends the run.
 //
 // `tests/compare` makes the sheets, and works out from document 01 what is to be printed.
 use batchplan_lib::batchplan_listing;

@@ -1,12 +1,13 @@
-// Prints what `planner::plan` answers to each sheet of standard input, and what it leaves in the buffer that it is lent, a line for each.
+// Prints what `planner::plan` answers to each sheet of standard input, and what it leaves in the buffer that it is
+// lent, a line for each.
 //
-// A sheet comes in a frame: its length in 2 bytes, little-endian; its bytes; and the length of the buffer in 2 bytes. A frame that is cut
-// short, or that asks for a buffer of more than 400 bytes, ends the run.
+// A sheet comes in a frame (see `gate_frames`), with the length of the buffer in 2 bytes after it. A frame that is
+// cut short, or that asks for a buffer of more than 400 bytes, ends the run.
 //
 // Before a plan, the byte at place i of the buffer is the last byte of 7 i + 3.
 //
-// The line of a plan is `plan`, low and gap. That of a refusal is `refused`, the number and the place. Then comes every byte of the buffer,
-// in two hexadecimal digits: the record, and the bytes that must stay as lent.
+// The line of a plan is `plan`, low and gap. That of a refusal is `refused`, the number and the place. Then comes
+// every byte of the buffer, in two hexadecimal digits: the record, and the bytes that must stay as lent.
 //
 // `tests/gate_plan` makes the frames, and works out from document 01 what is to be printed.
 use bytes_read::size_at;

@@ -1,10 +1,11 @@
 // Prints what `sheet_read::read_sheet` answers to each sheet of standard input, a line for each.
 //
-// A sheet comes in a frame: its length in 2 bytes, little-endian, and then its bytes. A frame that is cut short ends the run.
+// A sheet comes in a frame (see `gate_frames`) with nothing after it. A frame that is cut short ends the run.
 //
-// The line of a refused sheet is `refused`, the number and the place. That of an accepted sheet is `accepted`, the sizes n, m, p, D and k,
-// and every figure that is not 0: costs, least amounts, most amounts, a and b, as ` c0=3`, ` l0=1`, ` u0=10`, ` a0,1=-2` and ` b0=-12`.
-// The arrays are looked at in every place, so that a figure in a wrong place shows.
+// The line of a refused sheet is `refused`, the number and the place. That of an accepted sheet is `accepted`, the
+// sizes n, m, p, D and k, and every figure that is not 0: costs, least amounts, most amounts, a and b, as ` c0=3`, `
+// l0=1`, ` u0=10`, ` a0,1=-2` and ` b0=-12`. The arrays are looked at in every place, so that a figure in a wrong
+// place shows.
 //
 // `tests/gate_read` makes the sheets, and works out from document 01 what is to be printed.
 use gate_frames::Frame;

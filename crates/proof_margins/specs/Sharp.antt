@@ -96,7 +96,7 @@ unfolding Holds
 residuals-below-opening claim = claim .le
 
 pub squares-of-one-step-less :
-    squares-left P₂ 1 (pos 0) ≤ℤ (square (pos (P₂ .numerator)) *ℤ sumTo 0 (λ t. norm² P₂ (at (lookAfter P₂ t .residuals))))
-    → ⊥
+    squares-left P₂ 1 (pos 0)
+    ≤ℤ (square (pos (P₂ .numerator)) *ℤ sumTo 0 (λ t. norm² P₂ (at (lookAfter P₂ t .residuals)))) → ⊥
 unfolding Holds
 squares-of-one-step-less claim = claim .le

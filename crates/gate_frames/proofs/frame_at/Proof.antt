@@ -1,4 +1,5 @@
--- `gate_frames::frame_at` meets its contract: each return is a whole frame, or one that is cut short, by the tests that led there.
+-- `gate_frames::frame_at` meets its contract. Each return is of a whole frame, or of one that is cut short, by the
+-- tests that led there.
 use mathlib.Core.Path.{sym}
 use native.Mathlib.Omega.{arith}
 use borrow.Author.Needs.{needs}
