@@ -12,7 +12,7 @@ use Rattle.rules.specs.Run.{lookAfter}
 use Rattle.rules.specs.Margins.{square, PlanMargins, Margins}
 use Rattle.rules.specs.Rows.{Holds}
 use Rattle.rules.specs.Marked.{C1, C2, C3}
-use Rattle.rules.specs.Points.{problemOf, P₁, P₂, S₄, P₄, recipe, recipe-feasible, halves, halves-feasible}
+use Rattle.rules.specs.Points.{fromSheet, P₁, P₂, S₄, P₄, recipe, recipe-feasible, halves, halves-feasible}
 use Rattle.rules.specs.Points.{residual-left, residual-right, squares-left, squares-right}
 use Rattle.proof_magnitudes.specs.Minimal.{most, AllMinimal, WithinBounds}
 use Rattle.proof_magnitudes.specs.Steps.{entering}
@@ -50,7 +50,7 @@ claims-S₄ =
     (plan .residualTotals 0 (lit< tt), plan .squares)
 
 -- ---- C3, refused with 9: it has no feasible point
-pub infeasible-C3 : NoneFeasible (problemOf (C3 .sheet))
+pub infeasible-C3 : NoneFeasible (fromSheet (C3 .sheet))
 unfolding Holds Margins
 infeasible-C3 = margins (C3 .sheet) (C3 .room) refl
 

@@ -17,14 +17,15 @@ use Rattle.rules.specs.Margins.{square, PlanMargins, Margins}
 use Rattle.rules.specs.Rows.{_∶_, encode, Holds}
 use Rattle.rules.specs.Marked.{C1, C2, C3, C7, C9}
 
-abbrev pub problemOf : List ℕ → Problem
-problemOf sheet = problem (sheetOf sheet)
+-- the problem of a sheet's bytes
+abbrev pub fromSheet : List ℕ → Problem
+fromSheet sheet = problem (sheetOf sheet)
 
 -- amounts of one material, and of two
-abbrev pub one : ℤ → ℕ → ℤ
+abbrev one : ℤ → ℕ → ℤ
 one x _ = x
 
-abbrev pub two : ℤ → ℤ → ℕ → ℤ
+abbrev two : ℤ → ℤ → ℕ → ℤ
 two x y zero = x
 two x y (suc _) = y
 
@@ -40,7 +41,7 @@ below-two Q at-0 at-1 (suc j) l = below-one (λ i. Q (suc i)) at-1 j (le-of-suc-
 
 -- ---- feasible points: C1 has from 0 to 10 of each of two materials, and −2·x₀ − x₁ ≤ −12
 abbrev pub P₁ : Problem
-P₁ = problemOf (C1 .sheet)
+P₁ = fromSheet (C1 .sheet)
 
 -- the recipe (1, 10): −2 − 10 = −12
 abbrev pub recipe : ℕ → ℤ
@@ -69,7 +70,7 @@ halves-feasible = record {
 }
 
 -- C9 has exactly 4 of its material: 8/2
-pub least-feasible : Feasible (problemOf (C9 .sheet)) (pos 2) (one (pos 8))
+pub least-feasible : Feasible (fromSheet (C9 .sheet)) (pos 2) (one (pos 8))
 unfolding Holds
 least-feasible = record {
   divisor = ltZ-yes tt;
@@ -85,29 +86,29 @@ unfolding Holds
 divisor-zero f = f .divisor .lt
 
 -- C7, from 0 to 0: a divisor below 0
-pub divisor-negative : Feasible (problemOf (C7 .sheet)) (neg 1) (one (pos 0)) → ⊥
+pub divisor-negative : Feasible (fromSheet (C7 .sheet)) (neg 1) (one (pos 0)) → ⊥
 unfolding Holds
 divisor-negative f = f .divisor .lt
 
 -- C1: −1 of material 1
-pub below-zero : Feasible P₁ (pos 2) (two (pos 20) (neg 1)) → ⊥
+pub amount-negative : Feasible P₁ (pos 2) (two (pos 20) (neg 1)) → ⊥
 unfolding Holds
-below-zero f = f .above 1 (lit< tt) .le
+amount-negative f = f .above 1 (lit< tt) .le
 
 -- C9: 7/2, below 4
-pub below-least : Feasible (problemOf (C9 .sheet)) (pos 2) (one (pos 7)) → ⊥
+pub amount-below-least : Feasible (fromSheet (C9 .sheet)) (pos 2) (one (pos 7)) → ⊥
 unfolding Holds
-below-least f = f .above 0 (lit< tt) .le
+amount-below-least f = f .above 0 (lit< tt) .le
 
 -- C1: 21/2, above 10
-pub above-most : Feasible P₁ (pos 2) (two (pos 2) (pos 21)) → ⊥
+pub amount-above-most : Feasible P₁ (pos 2) (two (pos 2) (pos 21)) → ⊥
 unfolding Holds
-above-most f = f .below 1 (lit< tt) .le
+amount-above-most f = f .below 1 (lit< tt) .le
 
 -- C1: (3/2, 17/2), −23/2 against −12
-pub over-limit : Feasible P₁ (pos 2) (two (pos 3) (pos 17)) → ⊥
+pub load-over-limit : Feasible P₁ (pos 2) (two (pos 3) (pos 17)) → ⊥
 unfolding Holds
-over-limit f = f .within 0 (lit< tt) .le
+load-over-limit f = f .within 0 (lit< tt) .le
 
 -- ---- C1, with low 104 and gap −16: what the margins say at the two recipes
 pub margins-of-plan : Margins (C1 .sheet) (plan (pos 104) (neg 16)) → PlanMargins P₁ 4 (pos 104) (neg 16)
@@ -136,7 +137,7 @@ gap-17 low claim = claim .excess (pos 1) recipe recipe-feasible .le
 
 -- ---- C3: after refusal 9, and after no other, the margins say that there is no feasible point
 pub margins-of-no-blend : Margins (C3 .sheet) (refused (record { number = 9; place = 1 }))
-    → NoneFeasible (problemOf (C3 .sheet))
+    → NoneFeasible (fromSheet (C3 .sheet))
 unfolding Margins
 margins-of-no-blend claim = claim refl
 
@@ -148,7 +149,7 @@ pub answered-with-5 : answer C3-with-5 (C3 .room) ≡ plan (pos 5) (neg 5)
 unfolding Holds
 answered-with-5 = refl
 
-pub feasible-with-5 : Feasible (problemOf C3-with-5) (pos 1) (one (pos 5))
+pub feasible-with-5 : Feasible (fromSheet C3-with-5) (pos 1) (one (pos 5))
 unfolding Holds
 feasible-with-5 = record {
   divisor = ltZ-yes tt;
@@ -175,7 +176,7 @@ module _ (P : Problem) (k : ℕ) where
 
 -- ---- C2, with gap 0: 12 ≤ 12, and 0 + 12² ≤ 12²
 abbrev pub P₂ : Problem
-P₂ = problemOf (C2 .sheet)
+P₂ = fromSheet (C2 .sheet)
 
 pub claims-say-C2 : PlanMargins P₂ 1 (pos 0) (pos 0) → (pos 12 ≤ℤ pos 12) × (pos 144 ≤ℤ pos 144)
 unfolding Holds
@@ -199,7 +200,7 @@ abbrev pub S₄ : List ℕ
 S₄ = encode 1 1 4 6 2 (0 ∶ pos 1 ∷ 128 ∶ pos 2 ∷ 192 ∶ neg 2 ∷ 193 ∶ neg 3 ∷ [])
 
 abbrev pub P₄ : Problem
-P₄ = problemOf S₄
+P₄ = fromSheet S₄
 
 pub answered-S₄ : answer S₄ 38 ≡ plan (pos 0) (pos 12)
 unfolding Holds
