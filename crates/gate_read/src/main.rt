@@ -12,12 +12,11 @@ use gate_frames::Frame;
 use gate_frames::frame_at;
 use gate_frames::write_line;
 use libc::STDIN_FILENO;
-use out_listing::write_listing;
+use out_lines::put_refusal;
 use out_text::put_byte;
 use out_text::put_bytes;
 use out_text::put_integer;
 use out_text::put_number;
-use rules::Answer;
 use rules::Verdict;
 use sheet_figures::Figures;
 use sheet_read::Reading;
@@ -103,12 +102,12 @@ fn put_accepted(line: &mut [u8], f: Figures) -> usize {
     put_byte(line, limits, b'\n')
 }
 
-// The line of a reading. That of a refused sheet is its listing.
+// The line of a reading. That of a refused sheet is its listing's.
 fn put_reading(line: &mut [u8], reading: Reading) -> usize {
     let verdict = reading.verdict;
     match verdict {
         Verdict::Passed => put_accepted(line, reading.figures),
-        Verdict::Refused(refusal) => write_listing(Answer::Refused(refusal), b"", line),
+        Verdict::Refused(refusal) => put_refusal(line, refusal),
     }
 }
 
