@@ -137,5 +137,5 @@ def named_edges():
 
 
 def edges():
-    """The fixed sheets: those with names, and those that the programs `planned` and `damaged` are run on."""
-    return once([*named_edges(), *framed_sheets("planned", after=2), *framed_sheets("damaged", after=0)])
+    """The fixed sheets: those with names, and those that the programs `gate_plan` and `gate_read` are run on."""
+    return once([*named_edges(), *framed_sheets("gate_plan", after=2), *framed_sheets("gate_read", after=0)])

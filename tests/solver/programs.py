@@ -6,7 +6,7 @@ from pathlib import Path
 
 ROOT = Path(__file__).resolve().parents[2]
 BATCHPLAN = ROOT / "target" / "bin" / "batchplan"
-PLANNED = ROOT / "target" / "bin" / "planned"
+GATE_PLAN = ROOT / "target" / "bin" / "gate_plan"
 
 # How many bytes a program of the gate reads, and how long any program may take before it counts as hanging.
 READS = 65_536
@@ -60,5 +60,5 @@ def faults_of_files(crate, stdin, stdout, write):
         if write and not faults:
             file.write_bytes(made)
         if not file.is_file() or file.read_bytes() != made:
-            faults.append(f"crates/{crate}/{name} is not what tests/{crate} makes")
+            faults.append(f"crates/{crate}/{name} is not what tests/{Path(sys.argv[0]).name} makes")
     return faults

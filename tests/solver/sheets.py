@@ -92,7 +92,7 @@ def fitting(sheet):
 
 
 def lent(length):
-    """A buffer as the program `planned` lends it."""
+    """A buffer as the program `gate_plan` lends it."""
     return bytes((7 * i + 3) % 256 for i in range(length))
 
 

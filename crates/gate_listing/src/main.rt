@@ -1,12 +1,13 @@
 // Prints the listing of each sheet of standard input.
 //
-// A sheet comes in a frame: its length in 2 bytes, little-endian, and then its bytes. A frame that is cut short ends the run.
+// A sheet comes in a frame (see `gate_frames`) with nothing after it. A frame that is cut short ends the run.
 //
 // `tests/compare` makes the sheets, and works out from document 01 what is to be printed.
 use batchplan_lib::batchplan_listing;
-use bytes_read::size_at;
+use gate_frames::Frame;
+use gate_frames::frame_at;
+use gate_frames::write_line;
 use libc::STDIN_FILENO;
-use libc::STDOUT_FILENO;
 
 // The room for a listing. It takes every listing.
 const ROOM: usize = 4096;
@@ -15,19 +16,16 @@ const ROOM: usize = 4096;
 fn print_listing(sheet: &[u8]) {
     let mut out = [0u8; ROOM];
     let end = batchplan_listing(sheet, &mut out);
-    io::write_all(STDOUT_FILENO, &out[0..end]);
+    write_line(&out, end);
 }
 
 // Prints the listing of each sheet of the input.
 fn print_sheets(input: &[u8]) {
-    let mut at: usize = 0;
-    while input.len() - at >= 2 {
-        let start = at + 2;
-        let size = size_at(input, at);
-        if input.len() - start < size {
+    let mut at = 0;
+    while at < input.len() {
+        let Frame::Sheet { start, end } = frame_at(input, at, 0) else {
             return;
-        }
-        let end = start + size;
+        };
         print_listing(&input[start..end]);
         at = end;
     }

@@ -1,18 +1,21 @@
-// Prints what `planner::plan` answers to each sheet of standard input, and what it leaves in the buffer that it is lent, a line for each.
+// Prints what `planner::plan` answers to each sheet of standard input, and what it leaves in the buffer that it is
+// lent, a line for each.
 //
-// A sheet comes in a frame: its length in 2 bytes, little-endian; its bytes; and the length of the buffer in 2 bytes. A frame that is cut
-// short, or that asks for a buffer of more than 400 bytes, ends the run.
+// A sheet comes in a frame (see `gate_frames`), with the length of the buffer in 2 bytes after it. A frame that is
+// cut short, or that asks for a buffer of more than 400 bytes, ends the run.
 //
 // Before a plan, the byte at place i of the buffer is the last byte of 7 i + 3.
 //
-// The line of a plan is `plan`, low and gap. That of a refusal is `refused`, the number and the place. Then comes every byte of the buffer,
-// in two hexadecimal digits: the record, and the bytes that must stay as lent.
+// The line of a plan is `plan`, low and gap. That of a refusal is `refused`, the number and the place. Then comes
+// every byte of the buffer, in two hexadecimal digits: the record, and the bytes that must stay as lent.
 //
-// `tests/planned` makes the frames, and works out from document 01 what is to be printed.
+// `tests/gate_plan` makes the frames, and works out from document 01 what is to be printed.
 use bytes_read::size_at;
+use gate_frames::Frame;
+use gate_frames::frame_at;
+use gate_frames::write_line;
 use libc::STDIN_FILENO;
-use libc::STDOUT_FILENO;
-use out_listing::number_of;
+use out_refusals::number_of;
 use out_text::put_byte;
 use out_text::put_bytes;
 use out_text::put_integer;
@@ -72,13 +75,6 @@ fn put_hex(line: &mut [u8], at: usize, bytes: &[u8]) -> usize {
     end
 }
 
-// Writes a line that ends before a place.
-fn write_line(line: &[u8], end: usize) {
-    if end <= line.len() {
-        io::write_all(STDOUT_FILENO, &line[0..end]);
-    }
-}
-
 // What the buffer holds before a plan.
 fn fill(buffer: &mut [u8]) {
     let mut i = 0;
@@ -110,13 +106,10 @@ fn print_sheet(sheet: &[u8], lent: usize)
 // Prints the line of each frame of the input.
 fn print_frames(input: &[u8]) {
     let mut at = 0;
-    while input.len() - at >= 2 {
-        let start = at + 2;
-        let size = size_at(input, at);
-        if input.len() - start < size + 2 {
+    while at < input.len() {
+        let Frame::Sheet { start, end } = frame_at(input, at, 2) else {
             return;
-        }
-        let end = start + size;
+        };
         let lent = size_at(input, end);
         if LENT < lent {
             return;

@@ -1,24 +1,25 @@
 // Prints what `sheet_read::read_sheet` answers to each sheet of standard input, a line for each.
 //
-// A sheet comes in a frame: its length in 2 bytes, little-endian, and then its bytes. A frame that is cut short ends the run.
+// A sheet comes in a frame (see `gate_frames`) with nothing after it. A frame that is cut short ends the run.
 //
-// The line of a refused sheet is `refused`, the number and the place. That of an accepted sheet is `accepted`, the sizes n, m, p, D and k,
-// and every figure that is not 0: costs, least amounts, most amounts, a and b, as ` c0=3`, ` l0=1`, ` u0=10`, ` a0,1=-2` and ` b0=-12`.
-// The arrays are looked at in every place, so that a figure in a wrong place shows.
+// The line of a refused sheet is `refused`, the number and the place. That of an accepted sheet is `accepted`, the
+// sizes n, m, p, D and k, and every figure that is not 0: costs, least amounts, most amounts, a and b, as ` c0=3`, `
+// l0=1`, ` u0=10`, ` a0,1=-2` and ` b0=-12`. The arrays are looked at in every place, so that a figure in a wrong
+// place shows.
 //
-// `tests/damaged` makes the sheets, and works out from document 01 what is to be printed.
-use bytes_read::size_at;
+// `tests/gate_read` makes the sheets, and works out from document 01 what is to be printed.
+use gate_frames::Frame;
+use gate_frames::frame_at;
+use gate_frames::write_line;
 use libc::STDIN_FILENO;
-use libc::STDOUT_FILENO;
-use out_listing::write_listing;
+use out_lines::put_refusal;
 use out_text::put_byte;
 use out_text::put_bytes;
 use out_text::put_integer;
 use out_text::put_number;
-use rules::Answer;
+use rules::Verdict;
 use sheet_figures::Figures;
 use sheet_read::Reading;
-use sheet_read::Verdict;
 
 // The room for a line. A line with every figure takes less than 9,000 bytes.
 const ROOM: usize = 16384;
@@ -101,19 +102,12 @@ fn put_accepted(line: &mut [u8], f: Figures) -> usize {
     put_byte(line, limits, b'\n')
 }
 
-// The line of a reading. That of a refused sheet is its listing.
+// The line of a reading. That of a refused sheet is its listing's.
 fn put_reading(line: &mut [u8], reading: Reading) -> usize {
     let verdict = reading.verdict;
     match verdict {
-        Verdict::Accepted => put_accepted(line, reading.figures),
-        Verdict::Refused(refusal) => write_listing(Answer::Refused(refusal), b"", line),
-    }
-}
-
-// Writes a line that ends before a place.
-fn write_line(line: &[u8], end: usize) {
-    if end <= line.len() {
-        io::write_all(STDOUT_FILENO, &line[0..end]);
+        Verdict::Passed => put_accepted(line, reading.figures),
+        Verdict::Refused(refusal) => put_refusal(line, refusal),
     }
 }
 
@@ -127,13 +121,10 @@ fn print_sheet(sheet: &[u8]) {
 // Prints the line of each sheet of the input.
 fn print_sheets(input: &[u8]) {
     let mut at = 0;
-    while input.len() - at >= 2 {
-        let start = at + 2;
-        let size = size_at(input, at);
-        if input.len() - start < size {
+    while at < input.len() {
+        let Frame::Sheet { start, end } = frame_at(input, at, 0) else {
             return;
-        }
-        let end = start + size;
+        };
         print_sheet(&input[start..end]);
         at = end;
     }

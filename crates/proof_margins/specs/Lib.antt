@@ -11,7 +11,7 @@
 --   Plans            every plan has its margins
 --   Infeasible       refusal 9 is given only where there is no feasible point
 --   Theorem          demand 3
---   Sharp            the claims are not empty: marked sheets where they are equations, and near claims refuted
+--   Sharp            the claims are not empty: worked sheets where they are equations, and near claims refuted
 -- Minimal of `proof_magnitudes`, equation (8), comes before these.
 -- Of a step, M are the multipliers that enter it (times D), M′ those that leave it, x its amounts, and V its dual value. A point y/d has the whole
 -- amounts y over the divisor d.

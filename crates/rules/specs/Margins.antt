@@ -1,4 +1,5 @@
--- Document 01, "What demand 3 speaks of": one claim about the answer to a sheet's bytes. This is the statement; the proof is the crate `margins`.
+-- Document 01, "What demand 3 speaks of": one claim about the answer to a sheet's bytes. This is the statement; the proof
+-- is the crate `proof_margins`.
 use mathlib.Core.Path.{_≡_}
 use mathlib.Core.List.{List}
 use Prim.Native.Nat.{ℕ, _<_}

@@ -1,7 +1,8 @@
--- `planned::print_frames` meets its contract. A frame begins inside the input, and the next one begins after it.
+-- `gate_plan::print_frames` meets its contract. A frame begins inside the input, and the next one begins after it.
 use Prim.Native.Nat.{_-_, _≤_}
 use borrow.Author.Needs.{needs}
 use lib.ListN.{length}
+use Rattle.gate_frames.specs.Frames.{SheetLies, sheet-lies}
 use Rattle.gate_plan.proofs.print_frames.Statement.{statement}
 use Rattle.gate_plan.proofs.print_frames.Tie as tie
 
@@ -11,6 +12,15 @@ Inv-loop input at₀ at = at ≤ length input
 abbrev μ-loop : tie.MeasureT-loop
 μ-loop input at₀ at = length input - at
 
+-- the sheet of a frame that was found
+module _ (c : tie.After-known-told Inv-loop μ-loop) where
+  abbrev turn : tie.At-loop Inv-loop μ-loop
+  turn = c .before .before .before .before .before
+
+  lies : SheetLies (turn .before .before .args .input .now) (turn .loop .at) 2 (c .before .start .given .0 .0)
+      (c .before .start .given .0 .1 .0)
+  lies = sheet-lies _ _ _ (cc (c .before .before .before .frame-at .ensures, c .before .start .given .1))
+
 pub print-frames-spec : {M : Type 1} → statement M
 print-frames-spec =
     tie.close
@@ -18,20 +28,17 @@ print-frames-spec =
     Inv-loop
     μ-loop
     (λ c. search needs)
-    (λ c. search needs)
-    (λ c. search needs)
     (λ c κs. search needs)
     (λ c. search needs)
     (λ c. search needs)
     (λ c. search needs)
+    (λ c κs. let l = lies c in search needs)
     (λ c. search needs)
+    (λ c. let l = lies (c .before .before) in search needs)
+    (λ c. let l = lies (c .before .before) in search needs)
+    (λ c. let l = lies (c .before .before) in search needs)
     (λ c κs. search needs)
-    (λ c. search needs)
-    (λ c. search needs)
-    (λ c. search needs)
-    (λ c. search needs)
-    (λ c κs. search needs)
-    (λ c. search needs)
-    (λ c. search needs)
-    (λ c. search needs)
+    (λ c. let l = lies (c .before .before .before .before) in search needs)
+    (λ c. let l = lies (c .before .before .before .before) in search needs)
+    (λ c. let l = lies (c .before .before .before .before) in search needs)
     (λ c. search needs))

@@ -1,12 +1,10 @@
--- The loop stays inside the array.
+-- `gate_read::put_figures` meets its contract. The loop stays inside the array, and its figures fit 64 bits.
 use mathlib.Core.Path.{_≡_}
 use Prim.Native.Nat.{_-_, _≤_}
 use borrow.Author.Needs.{needs}
-use lib.IntN.{pos}
-use lib.ListN.{length, getD}
+use lib.ListN.{length}
 use mir.Syntax.{w16}
-use mir.Val.{SFits}
-use mir.Facts.{toZ-ofZ, sfits-widen}
+use Rattle.gate_read.proofs.Widened.{widened}
 use Rattle.gate_read.proofs.put_figures.Statement.{statement}
 use Rattle.gate_read.proofs.put_figures.Tie as tie
 
@@ -16,12 +14,10 @@ Inv-loop line₀ at letter figures end₀ i₀ line end i = (i ≤ length figure
 abbrev μ-loop : tie.MeasureT-loop
 μ-loop line₀ at letter figures end₀ i₀ line end i = length figures - i
 
--- a figure of 16 bits fits 64
 cast-put-figure : tie.Need-cast-put-figure Inv-loop μ-loop
 cast-put-figure c =
-    let loop = c .before .before .before in
-    let fits : SFits w16 (getD (loop .before .before .args .figures .now) (loop .loop .i) (pos 0)) = record { sfits = c .put-figure-arg2 .given } in
-    simp (toZ-ofZ fits) (sfits-widen tt fits)
+    let turn = c .before .before .before in
+    widened w16 (turn .before .before .args .figures .now) (turn .loop .i) tt (c .put-figure-arg2 .given)
 
 pub put-figures-spec : {M : Type 1} → statement M
 put-figures-spec =

@@ -1,0 +1,224 @@
+-- Points held against the statements of Problem and Margins, by computing with the definitions and with no theorem:
+-- points that are feasible, points that miss it by one unit in one clause, what each claim of demand 3 says in numbers,
+-- and claims that a point refutes. That the claims hold is proved in the crate `proof_margins`.
+use mathlib.Core.Path.{_≡_, refl}
+use mathlib.Core.List.{List, [], _∷_}
+use Prim.Native.Nat.{ℕ, zero, suc, _<_}
+use native.Mathlib.Nat.{le-of-suc-le-suc, not-suc-le-zero}
+use lib.Dec.{lit<}
+use lib.IntN.{ℤ, pos, _+ℤ_, _-ℤ_, _*ℤ_}
+use lib.Signed.{_≤ℤ_, leZ-yes, ltZ-yes}
+use Rattle.rules.specs.Notation.{neg, sumTo, at}
+use Rattle.rules.specs.Problem.{Problem, Feasible, NoneFeasible}
+use Rattle.rules.specs.Sheet.{sheetOf, problem}
+use Rattle.rules.specs.Run.{lookAfter, planAfter}
+use Rattle.rules.specs.Answers.{plan, refused, answer}
+use Rattle.rules.specs.Margins.{square, PlanMargins, Margins}
+use Rattle.rules.specs.Rows.{_∶_, encode, Holds}
+use Rattle.rules.specs.Marked.{C1, C2, C3, C7, C9}
+
+-- the problem of a sheet's bytes
+abbrev pub fromSheet : List ℕ → Problem
+fromSheet sheet = problem (sheetOf sheet)
+
+-- amounts of one material, and of two
+abbrev one : ℤ → ℕ → ℤ
+one x _ = x
+
+abbrev two : ℤ → ℤ → ℕ → ℤ
+two x y zero = x
+two x y (suc _) = y
+
+-- what holds at 0 holds at every place below 1
+below-one : (Q : ℕ → Type 0) → Q 0 → (j : ℕ) → j < 1 → Q j
+below-one Q at-0 zero l = at-0
+below-one Q at-0 (suc j) l = absurd (not-suc-le-zero (le-of-suc-le-suc l))
+
+-- what holds at 0 and at 1 holds at every place below 2
+below-two : (Q : ℕ → Type 0) → Q 0 → Q 1 → (j : ℕ) → j < 2 → Q j
+below-two Q at-0 at-1 zero l = at-0
+below-two Q at-0 at-1 (suc j) l = below-one (λ i. Q (suc i)) at-1 j (le-of-suc-le-suc l)
+
+-- ---- feasible points: C1 has from 0 to 10 of each of two materials, and −2·x₀ − x₁ ≤ −12
+abbrev pub P₁ : Problem
+P₁ = fromSheet (C1 .sheet)
+
+-- the recipe (1, 10): −2 − 10 = −12
+abbrev pub recipe : ℕ → ℤ
+recipe = two (pos 1) (pos 10)
+
+pub recipe-feasible : Feasible P₁ (pos 1) recipe
+unfolding Holds
+recipe-feasible = record {
+  divisor = ltZ-yes tt;
+  above = below-two _ (leZ-yes tt) (leZ-yes tt);
+  below = below-two _ (leZ-yes tt) (leZ-yes tt);
+  within = below-one _ (leZ-yes tt);
+}
+
+-- the recipe (3/2, 9), which needs the fraction: −6 − 18 = −24 is at most 2·(−12); and 18, above 10, is at most 2·10
+abbrev pub halves : ℕ → ℤ
+halves = two (pos 3) (pos 18)
+
+pub halves-feasible : Feasible P₁ (pos 2) halves
+unfolding Holds
+halves-feasible = record {
+  divisor = ltZ-yes tt;
+  above = below-two _ (leZ-yes tt) (leZ-yes tt);
+  below = below-two _ (leZ-yes tt) (leZ-yes tt);
+  within = below-one _ (leZ-yes tt);
+}
+
+-- C9 has exactly 4 of its material: 8/2
+pub least-feasible : Feasible (fromSheet (C9 .sheet)) (pos 2) (one (pos 8))
+unfolding Holds
+least-feasible = record {
+  divisor = ltZ-yes tt;
+  above = below-one _ (leZ-yes tt);
+  below = below-one _ (leZ-yes tt);
+  within = λ i l. absurd (not-suc-le-zero l);
+}
+
+-- ---- points that are not feasible, each by one unit in one clause
+-- C1: a divisor of 0
+pub divisor-zero : Feasible P₁ (pos 0) (one (pos 0)) → ⊥
+unfolding Holds
+divisor-zero f = f .divisor .lt
+
+-- C7, from 0 to 0: a divisor below 0
+pub divisor-negative : Feasible (fromSheet (C7 .sheet)) (neg 1) (one (pos 0)) → ⊥
+unfolding Holds
+divisor-negative f = f .divisor .lt
+
+-- C1: −1 of material 1
+pub amount-negative : Feasible P₁ (pos 2) (two (pos 20) (neg 1)) → ⊥
+unfolding Holds
+amount-negative f = f .above 1 (lit< tt) .le
+
+-- C9: 7/2, below 4
+pub amount-below-least : Feasible (fromSheet (C9 .sheet)) (pos 2) (one (pos 7)) → ⊥
+unfolding Holds
+amount-below-least f = f .above 0 (lit< tt) .le
+
+-- C1: 21/2, above 10
+pub amount-above-most : Feasible P₁ (pos 2) (two (pos 2) (pos 21)) → ⊥
+unfolding Holds
+amount-above-most f = f .below 1 (lit< tt) .le
+
+-- C1: (3/2, 17/2), −23/2 against −12
+pub load-over-limit : Feasible P₁ (pos 2) (two (pos 3) (pos 17)) → ⊥
+unfolding Holds
+load-over-limit f = f .within 0 (lit< tt) .le
+
+-- ---- C1, with low 104 and gap −16: what the margins say at the two recipes
+pub margins-of-plan : Margins (C1 .sheet) (plan (pos 104) (neg 16)) → PlanMargins P₁ 4 (pos 104) (neg 16)
+unfolding Holds Margins
+margins-of-plan claim = claim
+
+-- 104 ≤ 8·13, and 2·104 ≤ 8·27
+pub lower-says : PlanMargins P₁ 4 (pos 104) (neg 16) → (pos 104 ≤ℤ pos 104) × (pos 208 ≤ℤ pos 216)
+unfolding Holds
+lower-says claim = (claim .lower (pos 1) recipe recipe-feasible, claim .lower (pos 2) halves halves-feasible)
+
+-- 8·50 − 4·8·13 ≤ −16, and 2·8·50 − 4·8·27 ≤ 2·(−16)
+pub excess-says : PlanMargins P₁ 4 (pos 104) (neg 16) → (neg 16 ≤ℤ neg 16) × (neg 64 ≤ℤ neg 32)
+unfolding Holds
+excess-says claim = (claim .excess (pos 1) recipe recipe-feasible, claim .excess (pos 2) halves halves-feasible)
+
+-- the recipe (1, 10) costs 13, so that a low of 105 is refuted by it
+pub low-105 : (gap : ℤ) → PlanMargins P₁ 4 (pos 105) gap → ⊥
+unfolding Holds
+low-105 gap claim = claim .lower (pos 1) recipe recipe-feasible .le
+
+-- and a gap of −17
+pub gap-17 : (low : ℤ) → PlanMargins P₁ 4 low (neg 17) → ⊥
+unfolding Holds
+gap-17 low claim = claim .excess (pos 1) recipe recipe-feasible .le
+
+-- ---- C3: after refusal 9, and after no other, the margins say that there is no feasible point
+pub margins-of-no-blend : Margins (C3 .sheet) (refused (record { number = 9; place = 1 }))
+    → NoneFeasible (fromSheet (C3 .sheet))
+unfolding Margins
+margins-of-no-blend claim = claim refl
+
+-- with a most amount of 5, in place of 1, it is planned, and has one: 5
+abbrev C3-with-5 : List ℕ
+C3-with-5 = encode 1 1 1 1 2 (0 ∶ pos 1 ∷ 128 ∶ pos 5 ∷ 192 ∶ neg 1 ∷ 193 ∶ neg 5 ∷ [])
+
+pub answered-with-5 : answer C3-with-5 (C3 .room) ≡ plan (pos 5) (neg 5)
+unfolding Holds
+answered-with-5 = refl
+
+pub feasible-with-5 : Feasible (fromSheet C3-with-5) (pos 1) (one (pos 5))
+unfolding Holds
+feasible-with-5 = record {
+  divisor = ltZ-yes tt;
+  above = below-one _ (leZ-yes tt);
+  below = below-one _ (leZ-yes tt);
+  within = below-one _ (leZ-yes tt);
+}
+
+-- ---- the two sides of the residual claim at limit 0, and of the squares claim
+module _ (P : Problem) (k : ℕ) where
+  abbrev pub residual-left : ℤ
+  residual-left = pos (P .numerator) *ℤ at (planAfter P k .residualTotals) 0
+
+  abbrev pub residual-right : ℤ
+  residual-right = at (planAfter P k .multipliers) 0
+
+  abbrev pub squares-left : ℤ → ℤ
+  squares-left gap =
+      pos 2 *ℤ pos (P .numerator) *ℤ gap +ℤ sumTo (P .limits) (λ i. square (at (planAfter P k .multipliers) i))
+
+  abbrev pub squares-right : ℤ
+  squares-right =
+      square (pos (P .numerator)) *ℤ sumTo k (λ t. sumTo (P .limits) (λ i. square (at (lookAfter P t .residuals) i)))
+
+-- ---- C2, with gap 0: 12 ≤ 12, and 0 + 12² ≤ 12²
+abbrev pub P₂ : Problem
+P₂ = fromSheet (C2 .sheet)
+
+pub claims-say-C2 : PlanMargins P₂ 1 (pos 0) (pos 0) → (pos 12 ≤ℤ pos 12) × (pos 144 ≤ℤ pos 144)
+unfolding Holds
+claims-say-C2 claim = (claim .residualTotals 0 (lit< tt), claim .squares)
+
+-- with one less on the larger side each is refuted
+pub residual-C2 : residual-left P₂ 1 ≤ℤ (residual-right P₂ 1 -ℤ pos 1) → ⊥
+unfolding Holds
+residual-C2 claim = claim .le
+
+pub squares-C2 : squares-left P₂ 1 (pos 0) ≤ℤ (squares-right P₂ 1 -ℤ pos 1) → ⊥
+unfolding Holds
+squares-C2 claim = claim .le
+
+-- ---- A sheet with p above 1 and a gap that is not 0: p = 4, D = 6, k = 2; cost 1, most 2, −2·x ≤ −3. By hand:
+-- step 0: M = 0; weight 6; amount 0; miss 3; value 0.
+-- step 1: M = 12; weight 6 − 24 = −18; amount 2; miss −1; value 12 − 12 = 0.
+-- Closing M = 12 − 4 = 8; sum 2; overshoot 2; low 0; gap 6·2 − 2·0 = 12.
+-- The residual claim is 4·2 ≤ 8, and the squares claim 2·4·12 + 8² ≤ 4²·(3² + 1²): 160 on both sides.
+abbrev pub S₄ : List ℕ
+S₄ = encode 1 1 4 6 2 (0 ∶ pos 1 ∷ 128 ∶ pos 2 ∷ 192 ∶ neg 2 ∷ 193 ∶ neg 3 ∷ [])
+
+abbrev pub P₄ : Problem
+P₄ = fromSheet S₄
+
+pub answered-S₄ : answer S₄ 38 ≡ plan (pos 0) (pos 12)
+unfolding Holds
+answered-S₄ = refl
+
+pub claims-say-P₄ : PlanMargins P₄ 2 (pos 0) (pos 12) → (pos 8 ≤ℤ pos 8) × (pos 160 ≤ℤ pos 160)
+unfolding Holds
+claims-say-P₄ claim = (claim .residualTotals 0 (lit< tt), claim .squares)
+
+-- with one less on the larger side each is refuted, and so is a gap of 13
+pub residual-P₄ : residual-left P₄ 2 ≤ℤ (residual-right P₄ 2 -ℤ pos 1) → ⊥
+unfolding Holds
+residual-P₄ claim = claim .le
+
+pub squares-P₄ : squares-left P₄ 2 (pos 12) ≤ℤ (squares-right P₄ 2 -ℤ pos 1) → ⊥
+unfolding Holds
+squares-P₄ claim = claim .le
+
+pub gap-13 : (low : ℤ) → PlanMargins P₄ 2 low (pos 13) → ⊥
+unfolding Holds
+gap-13 low claim = claim .squares .le
