@@ -20,6 +20,9 @@ pub const GAP_AT: usize = LOW_AT + 8;
 // the sums, in 4 bytes each
 pub const SUMS_AT: usize = GAP_AT + 8;
 
+// The length of the longest record: 32 materials and 16 limits.
+pub const LONGEST: usize = SUMS_AT + 4 * 32 + 4 * 16 + 8 * 16;
+
 // The multipliers come after n sums, in 4 bytes each.
 pub fn multipliers_at(n: usize) -> usize
     requires { ⌜ n ≤ 32 ⌝ }
