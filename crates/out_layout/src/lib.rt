@@ -3,7 +3,7 @@
 ghost use mathlib.Core.Path.{_≡_};
 ghost use Prim.Native.Nat.{_≤_};
 ghost use Rattle.rules.specs.Record.{multipliersAt, totalsAt, recordLength};
-ghost use Rattle.out_layout.specs.Sizes.{Sizes};
+ghost use Rattle.out_layout.specs.RecordSizes.{RecordSizes};
 
 // n is at place 0, in 2 bytes; m, also in 2:
 pub const LIMITS_AT: usize = 2;
@@ -33,7 +33,7 @@ pub fn multipliers_at(n: usize) -> usize
 
 // The residual totals come after m multipliers, in 8 bytes each.
 pub fn totals_at(n: usize, m: usize) -> usize
-    requires { ⌜ Sizes n m ⌝ }
+    requires { ⌜ RecordSizes n m ⌝ }
     ensures { λ r. ⌜ r ≡ totalsAt n m ⌝ }
 {
     multipliers_at(n) + 4 * m
@@ -41,7 +41,7 @@ pub fn totals_at(n: usize, m: usize) -> usize
 
 // The record ends after m residual totals.
 pub fn record_length(n: usize, m: usize) -> usize
-    requires { ⌜ Sizes n m ⌝ }
+    requires { ⌜ RecordSizes n m ⌝ }
     ensures { λ r. ⌜ r ≡ recordLength n m ⌝ }
 {
     totals_at(n, m) + 8 * m

@@ -3,7 +3,7 @@ use Prim.Native.Nat.{ℕ, _≤_}
 use Rattle.rules.specs.Record.{recordLength}
 
 -- at most as many materials and limits as a sheet may have
-pub record Sizes (n m : ℕ) : Type 0 where
+pub record RecordSizes (n m : ℕ) : Type 0 where
   pub materials : n ≤ 32
   pub limits : m ≤ 16
 
