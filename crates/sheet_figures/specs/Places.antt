@@ -78,26 +78,54 @@ columnAt n Most x = x
 columnAt n Coefficient x = x % 32
 columnAt n Rhs x = n
 
--- ---- a place gives a row and a column, and they give the kind and the place back
-pub record Back (n : ℕ) (kind : Kind) (x : ℕ) : Type 0 where
+-- ---- a place that has a figure gives its row and column, and they give the kind and the place back
+pub record Back (n m : ℕ) (kind : Kind) (x : ℕ) : Type 0 where
+  pub in-sheet : FigureAt n m (rowAt kind x) (columnAt n kind x)
   pub same-kind : kindAt n (rowAt kind x) (columnAt n kind x) ≡ kind
   pub same-place : placeOf kind (rowAt kind x) (columnAt n kind x) ≡ x
-  pub column-in : columnAt n kind x ≤ n
+
+-- a figure of a material, and one of a limit
+of-material : (n m row column : ℕ) → row ≤ 2 → column < n → FigureAt n m row column
+of-material n m row column r l = record { row-in = omega arith; column-in = omega arith; material = λ _. l }
+
+of-limit : (n m i column : ℕ) → i < m → column ≤ n → FigureAt n m (3 + i) column
+of-limit n m i column r l = record { row-in = omega arith; column-in = l; material = λ h. absurd (omega arith) }
 
 both : (a b : Bool) → a && b ≡ true → (a ≡ true) × (b ≡ true)
 both true b h = (refl, h)
 both false b h = let z : _≡_ {A = ℕ} 0 1 = cc in absurd (omega arith)
 
-pub back : (n m : ℕ) (kind : Kind) (x : ℕ) → hasFigure n m kind x ≡ true → Back n kind x
+pub back : (n m : ℕ) (kind : Kind) (x : ℕ) → hasFigure n m kind x ≡ true → Back n m kind x
 unfolding hasFigure rowAt columnAt kindAt placeOf
-back n m Cost x h = let l = ltb-true x n h in record { same-kind = refl; same-place = refl; column-in = omega arith }
-back n m Least x h = let l = ltb-true x n h in record { same-kind = refl; same-place = refl; column-in = omega arith }
-back n m Most x h = let l = ltb-true x n h in record { same-kind = refl; same-place = refl; column-in = omega arith }
+back n m Cost x h = record {
+  in-sheet = of-material n m 0 x (omega arith) (ltb-true x n h);
+  same-kind = refl;
+  same-place = refl;
+}
+back n m Least x h = record {
+  in-sheet = of-material n m 1 x (omega arith) (ltb-true x n h);
+  same-kind = refl;
+  same-place = refl;
+}
+back n m Most x h = record {
+  in-sheet = of-material n m 2 x (omega arith) (ltb-true x n h);
+  same-kind = refl;
+  same-place = refl;
+}
 back n m Coefficient x h =
-    let (_, l) = both (ltb (x / 32) m) (ltb (x % 32) n) h in
-    let k = ltb-true (x % 32) n l in
-    record { same-kind = coefficient-kind n (x / 32) (x % 32) k; same-place = omega arith; column-in = omega arith }
-back n m Rhs x h = record { same-kind = rhs-kind n x; same-place = omega arith; column-in = omega arith }
+    let (i, j) = both (ltb (x / 32) m) (ltb (x % 32) n) h in
+    let row-in = ltb-true (x / 32) m i in
+    let column-in = ltb-true (x % 32) n j in
+    record {
+      in-sheet = of-limit n m (x / 32) (x % 32) row-in (omega arith);
+      same-kind = coefficient-kind n (x / 32) (x % 32) column-in;
+      same-place = omega arith;
+    }
+back n m Rhs x h = record {
+  in-sheet = of-limit n m x n (ltb-true x m h) (omega arith);
+  same-kind = rhs-kind n x;
+  same-place = omega arith;
+}
 
 -- ---- a row and a column that have a figure give its place, and it gives them back
 pub record There (n m row column : ℕ) (kind : Kind) : Type 0 where
