@@ -16,7 +16,7 @@ pub record Inside (w : ℕ) (s : List ℕ) (o : ℕ) : Type 0 where
   pub ends : o + w ≤ length s
 
 -- r is the unsigned number in w bytes, and so below 256^w
-pub record Number (w : ℕ) (s : List ℕ) (o r : ℕ) : Type 0 where
+pub record ReadUnsigned (w : ℕ) (s : List ℕ) (o r : ℕ) : Type 0 where
   pub is : r ≡ unsignedAt w s o
   pub small : r < 256 ^ w
 

@@ -2,7 +2,7 @@
 ghost use mathlib.Core.Path.{_≡_};
 ghost use Prim.Native.Nat.{_/_, _^_};
 ghost use Rattle.rules.specs.Bytes.{unsignedAt, signedOf, signedAt};
-ghost use Rattle.bytes_read.specs.Inside.{Width, Inside, Number, InWidth};
+ghost use Rattle.bytes_read.specs.Inside.{Width, Inside, ReadUnsigned, InWidth};
 
 // Half of the numbers that 0 to 8 bytes have: those from it on are negative.
 const HALVES: [u64; 9] = [
@@ -20,7 +20,7 @@ const HALVES: [u64; 9] = [
 // The unsigned number in the `width` bytes from place `at` on.
 pub fn unsigned_at(s: &[u8], at: usize, width: usize) -> u64
     requires { ⌜ Inside width (now s) at ⌝ }
-    ensures { λ r. ⌜ Number width (now (s .entry)) at r ⌝ }
+    ensures { λ r. ⌜ ReadUnsigned width (now (s .entry)) at r ⌝ }
 {
     let mut value: u64 = 0;
     let mut left = width;
@@ -71,7 +71,7 @@ pub fn signed_32(s: &[u8], at: usize) -> i32
 // The unsigned number in the 2 bytes from place `at` on, as a size, a count or a place.
 pub fn size_at(s: &[u8], at: usize) -> usize
     requires { ⌜ Inside 2 (now s) at ⌝ }
-    ensures { λ r. ⌜ Number 2 (now (s .entry)) at r ⌝ }
+    ensures { λ r. ⌜ ReadUnsigned 2 (now (s .entry)) at r ⌝ }
 {
     unsigned_at(s, at, 2) as usize
 }

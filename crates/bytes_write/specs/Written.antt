@@ -52,18 +52,18 @@ fill {d₀} {front} {d} {a = a} bytes f l h =
     }
 
 -- the part of d that `&mut d[a..]` lends
-abbrev pub lent : List ℕ → ℕ → List ℕ
-lent d a = take (length d - a) (drop a d)
+abbrev pub lentPart : List ℕ → ℕ → List ℕ
+lentPart d a = take (length d - a) (drop a d)
 
 -- d, once that part came back as `part`
-abbrev pub returned : List ℕ → ℕ → List ℕ → List ℕ
-returned d a part = take a d ++ (part ++ drop (length d - a) (drop a d))
+abbrev pub partReturned : List ℕ → ℕ → List ℕ → List ℕ
+partReturned d a part = take a d ++ (part ++ drop (length d - a) (drop a d))
 
 -- the part after `front` was lent, and came back with w bytes at its start: they follow `front`
 pub extend : {d₀ front d part : List ℕ} {a w : ℕ} (bytes : List ℕ) → Filled d₀ front a d → length bytes ≡ w
-    → part ≡ written bytes (lent d a) → Filled d₀ (front ++ bytes) (a + w) (returned d a part)
+    → part ≡ written bytes (lentPart d a) → Filled d₀ (front ++ bytes) (a + w) (partReturned d a part)
 unfolding writtenAt
 extend {d₀} {front} {d} {part} {a} {w} bytes f l h =
     let past : drop (length d - a) (drop a d) ≡ [] = drop-of-length-le (drop a d) (le-of-eq (length-drop a d)) in
-    let all : lent d a ≡ drop a d = take-all (length d - a) (drop a d) (le-of-eq (length-drop a d)) in
+    let all : lentPart d a ≡ drop a d = take-all (length d - a) (drop a d) (le-of-eq (length-drop a d)) in
     fill bytes f l (simp (past, append-nil, h, all))

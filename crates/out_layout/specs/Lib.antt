@@ -1,3 +1,3 @@
 -- The places of a record.
---   Sizes   what its functions ask
-pub mod Sizes
+--   RecordSizes   what its functions ask, and the length of the longest record
+pub mod RecordSizes

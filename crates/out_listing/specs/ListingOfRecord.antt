@@ -14,7 +14,7 @@ use Rattle.rules.specs.Promise.{Promise}
 use Rattle.proof_laws.specs.NotRefused.{otherwise-none}
 use Rattle.proof_magnitudes.specs.Accepted.{accepted}
 use Rattle.proof_magnitudes.specs.PlanFits.{plan-fits}
-use Rattle.out_layout.specs.Sizes.{Sizes}
+use Rattle.out_layout.specs.RecordSizes.{RecordSizes}
 use Rattle.out_record.specs.RoundTrip.{round-trip, holds-record}
 
 module _ (s lent : List ℕ) where
@@ -29,7 +29,7 @@ module _ (s lent : List ℕ) where
       let a = accepted s (otherwise-none _ _ before .0) in
       let fits = plan-fits a going in
       let rest = drop (recordLength (planOf s .materials) (planOf s .limits)) lent in
-      let sizes : Sizes (planOf s .materials) (planOf s .limits) =
+      let sizes : RecordSizes (planOf s .materials) (planOf s .limits) =
       record { materials = a .materials-few; limits = a .limits-few } in
       rw (holds-record fits sizes rest, round-trip fits rest)
 

@@ -10,7 +10,7 @@ use Rattle.rules.specs.Notation.{tabulate, at}
 use Rattle.rules.specs.Bytes.{unsignedAt, signedAt}
 use Rattle.rules.specs.Record.{limitsAt, lowAt, gapAt, sumsAt, multipliersAt, totalsAt, recordLength, recorded}
 use Rattle.rules.specs.Listing.{text, line, lines, planText}
-use Rattle.out_layout.specs.Sizes.{Sizes}
+use Rattle.out_layout.specs.RecordSizes.{RecordSizes}
 use Rattle.out_lines.specs.Lines.{lineOf}
 use Rattle.out_rows.specs.RecordLines.{stepsLine, materialLine, limitLine}
 
@@ -18,7 +18,7 @@ use Rattle.out_rows.specs.RecordLines.{stepsLine, materialLine, limitLine}
 pub record WholeRecord (r : List ℕ) (n m : ℕ) : Type 0 where
   pub materials : n ≡ unsignedAt 2 r 0
   pub limits : m ≡ unsignedAt 2 r limitsAt
-  pub sizes : Sizes n m
+  pub sizes : RecordSizes n m
   pub whole : recordLength n m ≤ length r
 
 -- lines that agree at each place below n

@@ -7,7 +7,7 @@ use Rattle.rules.specs.Notation.{tabulate, at}
 use Rattle.rules.specs.Bytes.{unsignedBytes, signedBytes}
 use Rattle.rules.specs.Run.{Plan}
 use Rattle.rules.specs.Record.{recordLength}
-use Rattle.out_layout.specs.Sizes.{Sizes}
+use Rattle.out_layout.specs.RecordSizes.{RecordSizes}
 use Rattle.out_record.specs.declared.Head.{Head}
 
 -- the plan: n sums, m multipliers and m residual totals, at the first places of their arrays
@@ -34,5 +34,5 @@ headBytes head =
 
 -- the arrays have places for all figures, and the buffer has room for the record
 pub record RecordRoom (head : Head) (d : List ℕ) : Type 0 where
-  pub sizes : Sizes (head .materials) (head .limits)
+  pub sizes : RecordSizes (head .materials) (head .limits)
   pub room : recordLength (head .materials) (head .limits) ≤ length d

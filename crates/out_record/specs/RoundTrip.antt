@@ -15,7 +15,7 @@ use Rattle.rules.specs.Record.{limitsAt, sumsAt, multipliersAt, totalsAt}
 use Rattle.proof_magnitudes.specs.PlanFits.{PlanFits}
 use Rattle.bytes_write.specs.Number.{length-unsigned, length-signed, length-fields}
 use Rattle.bytes_write.specs.ReadBack.{From, after, unsigned-read, signed-read, figures-read}
-use Rattle.out_layout.specs.Sizes.{Sizes}
+use Rattle.out_layout.specs.RecordSizes.{RecordSizes}
 use Rattle.out_record.specs.RecordLength.{length-record}
 
 -- n figures have w × n bytes
@@ -74,7 +74,7 @@ whole-record {p} fits rest =
     (omega arith)
 
 -- bytes that begin with the record of a plan hold a record, where its sizes are at most the largest of a sheet
-pub holds-record : {p : Plan} → PlanFits p → Sizes (p .materials) (p .limits) → (rest : List ℕ)
+pub holds-record : {p : Plan} → PlanFits p → RecordSizes (p .materials) (p .limits) → (rest : List ℕ)
     → holdsRecord (recordOf p ++ rest) ≡ true
 unfolding recorded holdsRecord
 holds-record {p} fits sizes rest =

@@ -1,3 +1,3 @@
 -- What the proofs share.
---   Turns   a loop that puts one line after another
-pub mod Turns
+--   LinesPut   a loop that puts one line after another
+pub mod LinesPut

@@ -1,6 +1,6 @@
 -- The listing ends inside its room.
 use borrow.Author.Needs.{needs}
-use Rattle.out_listing.specs.Laws.{listed-within}
+use Rattle.out_listing.specs.WholeText.{listed-within}
 use Rattle.batchplan.proofs.print_listing.Statement.{statement}
 use Rattle.batchplan.proofs.print_listing.Tie as tie
 

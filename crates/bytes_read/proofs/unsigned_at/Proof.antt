@@ -8,13 +8,13 @@ use native.Mathlib.Omega.{arith}
 use lib.ListN.{getD}
 use borrow.Author.Needs.{needs}
 use Rattle.rules.specs.Bytes.{unsignedAt}
-use Rattle.bytes_read.specs.Inside.{Number}
+use Rattle.bytes_read.specs.Inside.{ReadUnsigned}
 use Rattle.bytes_read.proofs.unsigned_at.Statement.{statement}
 use Rattle.bytes_read.proofs.unsigned_at.Tie as tie
 
 record Turn (s : List ℕ) (at width value left : ℕ) : Type 0 where
   within : left ≤ width
-  number : Number (width - left) s (at + left) value
+  number : ReadUnsigned (width - left) s (at + left) value
 
 abbrev Inv-loop : tie.InvT-loop
 Inv-loop s at width value₀ left₀ value left = Turn s at width value left

@@ -8,12 +8,12 @@ use mir.Facts.{toZ-ofZ}
 use borrow.Author.Needs.{needs}
 use Rattle.proof_integer.specs.Range.{wider}
 use Rattle.rules.specs.Notation.{at}
-use Rattle.out_fields.proofs.Figures.{Turn, first, room, next, last}
+use Rattle.out_fields.proofs.FieldsPut.{FieldsPut, no-field, field-room, field-more, all-fields}
 use Rattle.out_fields.proofs.put_32.Statement.{statement}
 use Rattle.out_fields.proofs.put_32.Tie as tie
 
 abbrev Inv-loop : tie.InvT-loop
-Inv-loop d₀ figures count i₀ d i = Turn 4 count figures d₀ d i
+Inv-loop d₀ figures count i₀ d i = FieldsPut 4 count figures d₀ d i
 
 abbrev μ-loop : tie.MeasureT-loop
 μ-loop d₀ figures count i₀ d i = count - i
@@ -38,13 +38,13 @@ cast-put-signed c = rw (toZ-ofZ (narrow c)) (wide c)
 put-signed-requires : tie.Need-put-signed-requires Inv-loop μ-loop
 put-signed-requires c κs =
     rw (toZ-ofZ (narrow c), toZ-ofZ (wide c))
-    (room (turn c .before .before .pre) (turn c .loop .inv) (omega arith) (omega arith) (narrow c .sfits))
+    (field-room (turn c .before .before .pre) (turn c .loop .inv) (omega arith) (omega arith) (narrow c .sfits))
 
 loop-again : tie.Need-loop-again Inv-loop μ-loop
 loop-again c =
     let call = c .before .before in
     let wrote = simp (toZ-ofZ (narrow (call .before)), toZ-ofZ (wide (call .before))) at (call .put-signed .ensures) in
-    next (turn (call .before) .loop .inv) (omega arith) wrote (c .before .d .given)
+    field-more (turn (call .before) .loop .inv) (omega arith) wrote (c .before .d .given)
 
 pub put-32-spec : {M : Type 1} → statement M
 put-32-spec =
@@ -52,7 +52,7 @@ put-32-spec =
     (tie.spec
     Inv-loop
     μ-loop
-    (λ c. first)
+    (λ c. no-field)
     (search needs)
     (search needs)
     (search needs)
@@ -62,4 +62,4 @@ put-32-spec =
     (search needs)
     loop-again
     (λ c. c .before .loop .inv .long)
-    (λ c. last (c .before .loop .inv) (omega arith)))
+    (λ c. all-fields (c .before .loop .inv) (omega arith)))

@@ -7,12 +7,12 @@ use mir.Val.{SFits}
 use mir.Facts.{toZ-ofZ}
 use borrow.Author.Needs.{needs}
 use Rattle.rules.specs.Notation.{at}
-use Rattle.out_fields.proofs.Figures.{Turn, first, room, next, last}
+use Rattle.out_fields.proofs.FieldsPut.{FieldsPut, no-field, field-room, field-more, all-fields}
 use Rattle.out_fields.proofs.put_64.Statement.{statement}
 use Rattle.out_fields.proofs.put_64.Tie as tie
 
 abbrev Inv-loop : tie.InvT-loop
-Inv-loop d₀ figures count i₀ d i = Turn 8 count figures d₀ d i
+Inv-loop d₀ figures count i₀ d i = FieldsPut 8 count figures d₀ d i
 
 abbrev μ-loop : tie.MeasureT-loop
 μ-loop d₀ figures count i₀ d i = count - i
@@ -31,13 +31,13 @@ module _ (c : tie.After-put-signed-arg2 Inv-loop μ-loop) where
 put-signed-requires : tie.Need-put-signed-requires Inv-loop μ-loop
 put-signed-requires c κs =
     rw (toZ-ofZ (fits c))
-    (room (turn c .before .before .pre) (turn c .loop .inv) (omega arith) (omega arith) (fits c .sfits))
+    (field-room (turn c .before .before .pre) (turn c .loop .inv) (omega arith) (omega arith) (fits c .sfits))
 
 loop-again : tie.Need-loop-again Inv-loop μ-loop
 loop-again c =
     let call = c .before .before in
     let wrote = simp (toZ-ofZ (fits (call .before))) at (call .put-signed .ensures) in
-    next (turn (call .before) .loop .inv) (omega arith) wrote (c .before .d .given)
+    field-more (turn (call .before) .loop .inv) (omega arith) wrote (c .before .d .given)
 
 pub put-64-spec : {M : Type 1} → statement M
 put-64-spec =
@@ -45,7 +45,7 @@ put-64-spec =
     (tie.spec
     Inv-loop
     μ-loop
-    (λ c. first)
+    (λ c. no-field)
     (search needs)
     (search needs)
     (search needs)
@@ -54,4 +54,4 @@ put-64-spec =
     (search needs)
     loop-again
     (λ c. c .before .loop .inv .long)
-    (λ c. last (c .before .loop .inv) (omega arith)))
+    (λ c. all-fields (c .before .loop .inv) (omega arith)))

@@ -22,28 +22,28 @@ one-more w zero f = sym (append-nil (signedBytes w (f 0)))
 one-more w (suc n) f = rw (append-assoc, one-more w n (λ i. f (suc i)))
 
 -- before turn i, the first i figures are written
-pub record Turn (w count : ℕ) (figures : List ℤ) (d₀ d : List ℕ) (i : ℕ) : Type 0 where
+pub record FieldsPut (w count : ℕ) (figures : List ℤ) (d₀ d : List ℕ) (i : ℕ) : Type 0 where
   pub within : i ≤ count
   pub long : length d ≡ length d₀
   pub is : d ≡ written (firstFields w i figures) d₀
 
 -- before the first turn none is
-pub first : {w count : ℕ} {figures : List ℤ} {d : List ℕ} → Turn w count figures d d 0
+pub no-field : {w count : ℕ} {figures : List ℤ} {d : List ℕ} → FieldsPut w count figures d d 0
 unfolding fields tabulate
-first {d = d} = record { within = omega arith; long = refl; is = written-none d }
+no-field {d = d} = record { within = omega arith; long = refl; is = written-none d }
 
 -- there is room for figure i, which fits its bytes
-pub room : {w count i : ℕ} {figures : List ℤ} {d₀ d : List ℕ} {z : ℤ} → FieldsRoom w count figures d₀
-    → Turn w count figures d₀ d i → i < count → w ≤ 8 → mag z < 256 ^ w / 2 → SignedRoom (w * i) w z d
-room {w} {count} {i} asked t more narrow small =
+pub field-room : {w count i : ℕ} {figures : List ℤ} {d₀ d : List ℕ} {z : ℤ} → FieldsRoom w count figures d₀
+    → FieldsPut w count figures d₀ d i → i < count → w ≤ 8 → mag z < 256 ^ w / 2 → SignedRoom (w * i) w z d
+field-room {w} {count} {i} there t more narrow small =
     let within : w * suc i ≤ w * count = mul-le-mul-left w more in
-    record { room = omega (arith, mul-suc w i, asked .room, t .long); narrow = narrow; small = small }
+    record { room = omega (arith, mul-suc w i, there .room, t .long); narrow = narrow; small = small }
 
 -- figure i is written after them
-pub next : {w count i : ℕ} {figures : List ℤ} {d₀ d d' : List ℕ} → Turn w count figures d₀ d i → i < count
+pub field-more : {w count i : ℕ} {figures : List ℤ} {d₀ d d' : List ℕ} → FieldsPut w count figures d₀ d i → i < count
     → d' ≡ writtenAt (w * i) (signedBytes w (at figures i)) d → length d' ≡ length d
-    → Turn w count figures d₀ d' (i + 1)
-next {w} {i = i} {figures = figures} {d₀ = d₀} {d = d} t more e l =
+    → FieldsPut w count figures d₀ d' (i + 1)
+field-more {w} {i = i} {figures = figures} {d₀ = d₀} {d = d} t more e l =
     let z = at figures i in
     let before : Filled d₀ (firstFields w i figures) (w * i) d =
     record { is = t .is; long = length-first w i figures } in
@@ -51,8 +51,8 @@ next {w} {i = i} {figures = figures} {d₀ = d₀} {d = d} t more e l =
     record { within = omega arith; long = l ∙ t .long; is = filled .is ∙ rw (add-one, one-more w i (at figures)) }
 
 -- after the last turn all are
-pub last : {w count i : ℕ} {figures : List ℤ} {d₀ d : List ℕ} → Turn w count figures d₀ d i → count ≤ i
+pub all-fields : {w count i : ℕ} {figures : List ℤ} {d₀ d : List ℕ} → FieldsPut w count figures d₀ d i → count ≤ i
     → d ≡ written (firstFields w count figures) d₀
-last {w} {count} {i} {figures} {d₀} t end =
+all-fields {w} {count} {i} {figures} {d₀} t end =
     let all : i ≡ count = omega arith in
     t .is ∙ ap (λ k. written (firstFields w k figures) d₀) all

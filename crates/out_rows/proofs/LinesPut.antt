@@ -9,25 +9,25 @@ use Rattle.out_text.specs.Text.{Puts}
 use Rattle.out_text.specs.Growing.{puts-none, puts-as, then}
 
 -- before turn i, the first i of n lines are put
-pub record Turn (f : ℕ → List ℕ) (n : ℕ) (d₀ : List ℕ) (at : ℕ) (d : List ℕ) (end i : ℕ) : Type 0 where
+pub record LinesPut (f : ℕ → List ℕ) (n : ℕ) (d₀ : List ℕ) (at : ℕ) (d : List ℕ) (end i : ℕ) : Type 0 where
   pub within : i ≤ n
   pub put : Puts (lines i f) d₀ at d end
 
 -- before the first turn none is
-pub first : {f : ℕ → List ℕ} {n : ℕ} {d : List ℕ} {at : ℕ} → Turn f n d at d at 0
+pub no-line : {f : ℕ → List ℕ} {n : ℕ} {d : List ℕ} {at : ℕ} → LinesPut f n d at d at 0
 unfolding lines
-first = record { within = omega arith; put = puts-none }
+no-line = record { within = omega arith; put = puts-none }
 
 -- line i is put after them
-pub next : {f : ℕ → List ℕ} {n : ℕ} {d₀ d d' : List ℕ} {at end end' i : ℕ}
-    → Turn f n d₀ at d end i → i < n → Puts (f i) d end d' end' → Turn f n d₀ at d' end' (i + 1)
+pub line-more : {f : ℕ → List ℕ} {n : ℕ} {d₀ d d' : List ℕ} {at end end' i : ℕ}
+    → LinesPut f n d₀ at d end i → i < n → Puts (f i) d end d' end' → LinesPut f n d₀ at d' end' (i + 1)
 unfolding lines
-next {f} {i = i} t more p =
+line-more {f} {i = i} t more p =
     record { within = omega arith; put = puts-as (ap (λ k. lines k f) (sym (add-one i))) (then (t .put) p) }
 
 -- after the last turn all are
-pub last : {f : ℕ → List ℕ} {n : ℕ} {d₀ d : List ℕ} {at end i : ℕ}
-    → Turn f n d₀ at d end i → n ≤ i → Puts (lines n f) d₀ at d end
-last {f} {n} {i = i} t stop =
+pub all-lines : {f : ℕ → List ℕ} {n : ℕ} {d₀ d : List ℕ} {at end i : ℕ}
+    → LinesPut f n d₀ at d end i → n ≤ i → Puts (lines n f) d₀ at d end
+all-lines {f} {n} {i = i} t stop =
     let all : i ≡ n = omega arith in
     puts-as (ap (λ k. lines k f) all) (t .put)
