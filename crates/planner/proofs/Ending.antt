@@ -26,7 +26,7 @@ use Rattle.run_step.specs.States.{stateIn}
 use Rattle.run_step.specs.Reads.{multipliers-read, sums-read, totals-read}
 use Rattle.run_step.specs.Reached.{Reached}
 use Rattle.out_record.specs.RecordParts.{planIn}
-use Rattle.planner.specs.Ends.{Ends}
+use Rattle.planner.specs.Finish.{Ends}
 
 -- a refusal leaves the buffer as lent
 pub ends-refused : {p : Plan} {met : Option Numbered} {lent : List ℕ} (r : Refusal) → met ≡ some (numbered r) → Ends p met lent lent (Answer.Refused r)

@@ -1,2 +1,2 @@
 -- What the parts of planning ask and give.
-pub mod Ends
+pub mod Finish

@@ -9,7 +9,7 @@ ghost use Rattle.rules.specs.Answers.{stepRefusal};
 ghost use Rattle.rules.specs.Promise.{Promise};
 ghost use Rattle.proof_magnitudes.specs.Accepted.{Accepted};
 ghost use Rattle.sheet_figures.specs.Figures.{problemOf};
-ghost use Rattle.planner.specs.Ends.{Ends, RunReady, WriteReady};
+ghost use Rattle.planner.specs.Finish.{Ends, RunReady, WriteReady};
 use out_layout::record_length;
 use out_record::Head;
 use out_record::write_record;

@@ -1,5 +1,5 @@
 -- What the one-line functions ask and give.
---   Fits   a product and its sum fit a width
---   Ends   the end of the bounds that a weight chooses
-pub mod Fits
+--   Products   a product and its sum fit a width
+--   Ends       the end of the bounds that a weight chooses
+pub mod Products
 pub mod Ends

@@ -5,7 +5,7 @@ ghost use mir.Syntax.{w32, w64};
 ghost use mir.Val.{SFits};
 ghost use Rattle.rules.specs.Notation.{maxℤ};
 ghost use Rattle.run_arithmetic.specs.Ends.{endBy};
-ghost use Rattle.run_arithmetic.specs.Fits.{ProductFits};
+ghost use Rattle.run_arithmetic.specs.Products.{ProductFits};
 
 // sum + x·y, in 32 bits.
 pub fn plus_product_32(sum: i32, x: i16, y: i16) -> i32

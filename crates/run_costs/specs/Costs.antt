@@ -9,7 +9,7 @@ use Rattle.rules.specs.Problem.{Problem, costOf}
 use Rattle.rules.specs.Run.{gapOf}
 use Rattle.sheet_figures.specs.Figures.{problemIn}
 use Rattle.run_arithmetic.specs.Ends.{endBy}
-use Rattle.run_sums.specs.Fits.{SumFits}
+use Rattle.run_sums.specs.SumsFit.{SumFits}
 
 -- the materials: costs and bounds
 abbrev pub materialsOnly : (n D : ℕ) → (c l u : List ℤ) → Problem

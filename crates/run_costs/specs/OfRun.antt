@@ -17,7 +17,7 @@ use Rattle.proof_magnitudes.specs.Magnitudes.{CostMagnitudes, amounts-bnd, cost
 use Rattle.proof_magnitudes.specs.RunMagnitudes.{run-magnitudes}
 use Rattle.sheet_figures.specs.declared.Figures.{Figures}
 use Rattle.sheet_figures.specs.Figures.{problemOf}
-use Rattle.run_sums.specs.Fits.{SumFits}
+use Rattle.run_sums.specs.SumsFit.{SumFits}
 use Rattle.run_costs.specs.Costs.{materialsOnly, costsOnly, CostFits, GapFits}
 
 -- the cost of amounts of at most 1,000

@@ -5,7 +5,7 @@ ghost use Rattle.rules.specs.Step.{amount, residual, lookAt};
 ghost use Rattle.sheet_figures.specs.Figures.{problemIn};
 ghost use Rattle.sheet_figures.specs.Padded.{padded};
 ghost use Rattle.run_look.specs.Given.{withoutRhs, limitsOnly, lookIn};
-ghost use Rattle.run_look.specs.Fits.{AmountsFit, ResidualsFit, LookFits};
+ghost use Rattle.run_look.specs.LookFits.{AmountsFit, ResidualsFit, LookFits};
 use run_arithmetic::end_by;
 use run_costs::scaled_cost;
 use run_sums::dot_32;

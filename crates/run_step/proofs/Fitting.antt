@@ -16,9 +16,9 @@ use Rattle.proof_magnitudes.specs.Steps.{entering, amounts, residuals, residual
 use Rattle.proof_magnitudes.specs.RunMagnitudes.{RunMagnitudes}
 use Rattle.sheet_figures.specs.declared.Figures.{Figures}
 use Rattle.sheet_figures.specs.Figures.{problemIn, problemOf}
-use Rattle.run_sums.specs.Fits.{SumFits}
+use Rattle.run_sums.specs.SumsFit.{SumFits}
 use Rattle.run_costs.specs.OfRun.{cost-fits}
-use Rattle.run_look.specs.Fits.{AmountsFit, ResidualsFit, LookFits}
+use Rattle.run_look.specs.LookFits.{AmountsFit, ResidualsFit, LookFits}
 use Rattle.run_totals.specs.Moves.{limitsMoved, MoveFits}
 use Rattle.run_totals.specs.Totals.{TotalsFit}
 

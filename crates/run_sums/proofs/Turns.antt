@@ -9,7 +9,7 @@ use mir.Val.{SFits, toZ, ofZ}
 use mir.Facts.{toZ-ofZ}
 use Rattle.proof_integer.specs.Sum.{sumTo-zero, sumTo-suc}
 use Rattle.rules.specs.Notation.{sumTo}
-use Rattle.run_sums.specs.Fits.{SumFits}
+use Rattle.run_sums.specs.SumsFit.{SumFits}
 
 module _ (w : Width) (first : ℤ) (term : ℕ → ℤ) (count : ℕ) where
   -- before turn i, the bits `sum` stand for the first i terms

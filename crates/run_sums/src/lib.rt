@@ -3,7 +3,7 @@ ghost use mathlib.Core.Path.{_≡_};
 ghost use Prim.Native.Nat.{_+_, _*_};
 ghost use lib.IntN.{_+ℤ_, _*ℤ_};
 ghost use Rattle.rules.specs.Notation.{sumTo, at};
-ghost use Rattle.run_sums.specs.Fits.{RowFits, ColumnFits, PairsFit};
+ghost use Rattle.run_sums.specs.SumsFit.{RowFits, ColumnFits, PairsFit};
 use run_arithmetic::plus_product_32;
 use run_arithmetic::plus_product_64;
 

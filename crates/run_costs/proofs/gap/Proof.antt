@@ -11,7 +11,7 @@ use Rattle.proof_integer.specs.Range.{small-is}
 use Rattle.rules.specs.Notation.{sumTo, at}
 use Rattle.rules.specs.Problem.{Problem, costOf}
 use Rattle.rules.specs.Run.{gapOf}
-use Rattle.run_sums.specs.Fits.{SumFits}
+use Rattle.run_sums.specs.SumsFit.{SumFits}
 use Rattle.run_costs.specs.Costs.{costsOnly}
 use Rattle.run_costs.proofs.gap.Statement.{statement}
 use Rattle.run_costs.proofs.gap.Tie as tie

@@ -14,10 +14,10 @@ use Rattle.rules.specs.Step.{reducedCost, amount, residual, dualValue, lookAt}
 use Rattle.rules.specs.Step as step
 use Rattle.sheet_figures.specs.Figures.{problemIn}
 use Rattle.sheet_figures.specs.Padded.{padded, at-padded}
-use Rattle.run_sums.specs.Fits.{SumFits}
+use Rattle.run_sums.specs.SumsFit.{SumFits}
 use Rattle.run_costs.specs.Costs.{CostFits}
 use Rattle.run_look.specs.Given.{lookIn}
-use Rattle.run_look.specs.Fits.{ResidualsFit}
+use Rattle.run_look.specs.LookFits.{ResidualsFit}
 use Rattle.run_look.proofs.look_at.Statement.{statement}
 use Rattle.run_look.proofs.look_at.Tie as tie
 

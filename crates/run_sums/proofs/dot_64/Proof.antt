@@ -8,7 +8,7 @@ use mir.Val.{SFits, toZ, ofZ}
 use mir.Facts.{toZ-ofZ}
 use borrow.Author.Needs.{needs}
 use Rattle.rules.specs.Notation.{at}
-use Rattle.run_sums.specs.Fits.{SumFits}
+use Rattle.run_sums.specs.SumsFit.{SumFits}
 use Rattle.run_sums.proofs.Turns.{Turn, turn-start, sum-fits, turn-next, turn-end}
 use Rattle.run_sums.proofs.dot_64.Statement.{statement}
 use Rattle.run_sums.proofs.dot_64.Tie as tie

@@ -6,7 +6,7 @@ use mir.Val.{SFits}
 use Rattle.rules.specs.Notation.{at}
 use Rattle.rules.specs.Problem.{Problem, costOf}
 use Rattle.rules.specs.Step.{residual, lookAt}
-use Rattle.run_sums.specs.Fits.{SumFits}
+use Rattle.run_sums.specs.SumsFit.{SumFits}
 use Rattle.run_costs.specs.Costs.{CostFits}
 
 -- the reduced costs
