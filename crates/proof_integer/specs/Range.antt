@@ -114,6 +114,6 @@ sfits-between {w} {lo} {hi} {z} l h p q = record { sfits = mags lo z hi (2 ^ hbi
     mags (negsuc a) (negsuc n) hi H l h p q = omega (arith, leb→le n a p)
 
 -- ---- a number below 0, in two's complement: −1 − z is `mag z`, which is n for −(n + 1)
-pub below-zero : (z : ℤ) → ltZ z (pos 0) ≡ true → negsuc 0 -ℤ z ≡ pos (mag z)
-below-zero (pos n) h = let g : n < 0 = ltb-true n 0 h in absurd (omega arith)
-below-zero (negsuc n) h = simp (le-ltb (suc n) 1 (omega arith)) (ap pos (omega arith))
+pub mag-below-zero : (z : ℤ) → ltZ z (pos 0) ≡ true → negsuc 0 -ℤ z ≡ pos (mag z)
+mag-below-zero (pos n) h = let g : n < 0 = ltb-true n 0 h in absurd (omega arith)
+mag-below-zero (negsuc n) h = simp (le-ltb (suc n) 1 (omega arith)) (ap pos (omega arith))

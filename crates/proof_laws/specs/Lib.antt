@@ -2,14 +2,14 @@
 --   Entries      row and column of a key, the kind of figure there, and what the tests of an entry say
 --   Sizes        the ranges of n, m and e
 --   Lengths      the lists of a state and of a look have n and m elements
---   Places       what holds at every place below n
+--   Below        what holds at every place below n
 --   NotRefused   what follows where nothing is refused
 --   FirstPlace   the chain of refusals and the first place, as code meets them
 --   Agreeing     only the figures of the n materials and the m limits count
 pub mod Entries
 pub mod Sizes
 pub mod Lengths
-pub mod Places
+pub mod Below
 pub mod NotRefused
 pub mod FirstPlace
 pub mod Agreeing

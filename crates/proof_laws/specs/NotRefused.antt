@@ -5,7 +5,7 @@ use mathlib.Core.Option.{Option, none, some, Option·some-ne-none}
 use Prim.Native.Nat.{ℕ, zero, suc, _<_}
 use lib.Dec.{T}
 use Rattle.rules.specs.Refusals.{Numbered, refuse, _otherwise_, firstBelow}
-use Rattle.proof_laws.specs.Places.{below-zero, below-suc}
+use Rattle.proof_laws.specs.Below.{below-zero, below-suc}
 
 pub otherwise-none : (a b : Option Numbered) → a otherwise b ≡ none → (a ≡ none) × (b ≡ none)
 unfolding _otherwise_

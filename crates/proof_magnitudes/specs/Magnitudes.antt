@@ -14,7 +14,7 @@ use Rattle.proof_integer.specs.Sum.{sumTo-bnd}
 use Rattle.rules.specs.Notation.{sumTo}
 use Rattle.rules.specs.Problem.{Problem, costOf, loadOf}
 use Rattle.rules.specs.Step.{reducedCost, residual, dualValue}
-use Rattle.proof_magnitudes.specs.Minimal.{between, AllMinimal}
+use Rattle.proof_magnitudes.specs.Minimal.{minimal-between, AllMinimal}
 use Rattle.proof_magnitudes.specs.CostRange.{greatestEnd, greatest-minimal}
 use Rattle.proof_magnitudes.specs.Accepted.{Accepted}
 
@@ -76,7 +76,7 @@ module _ {P : Problem} {k : ℕ} (a : Accepted P k) where
   -- ---- amounts that minimise anything lie between the bounds, and so are at most 1,000
   pub amounts-bnd : {w x : ℕ → ℤ} → AllMinimal P w x → (j : ℕ) → j < P .materials → Bnd (x j) 1000
   amounts-bnd minimal j l =
-      let (above, below) = between (minimal j l) (a .ordered j l) in
+      let (above, below) = minimal-between (minimal j l) (a .ordered j l) in
       bnd-between (≤ℤ-trans (leZ-yes tt) (≤ℤ-trans (a .least-sign j l) above)) (≤ℤ-trans below (a .most-in j l))
 
   -- ---- costs, of amounts up to those that 4,096 steps add up to

@@ -42,9 +42,9 @@ term-least {w} {u = u} (most nonpos e) d y above below = rw e (falling w u d y (
 term-least {w} {l} (least nonneg e) d y above below = rw e (rising w l d y (gap-mul nonneg above))
 
 -- it lies between the bounds itself
-pub between : {w l u x : ℤ} → Minimal w l u x → l ≤ℤ u → (l ≤ℤ x) × (x ≤ℤ u)
-between (most _ e) h = (rw e h, ≡→≤ℤ e)
-between (least _ e) h = (≡→≤ℤ (sym e), rw e h)
+pub minimal-between : {w l u x : ℤ} → Minimal w l u x → l ≤ℤ u → (l ≤ℤ x) × (x ≤ℤ u)
+minimal-between (most _ e) h = (rw e h, ≡→≤ℤ e)
+minimal-between (least _ e) h = (≡→≤ℤ (sym e), rw e h)
 
 -- ---- all materials
 -- the amounts x minimise Σ_j w_j·x_j
@@ -69,6 +69,6 @@ sum-least P w x minimal d y within =
 pub minimal-within : {P : Problem} {w x : ℕ → ℤ}
     → ((j : ℕ) → j < P .materials → P .least j ≤ℤ P .most j) → AllMinimal P w x → WithinBounds P (pos 1) x
 minimal-within ordered minimal = record {
-  above = λ j l. rw one-*ℤ (between (minimal j l) (ordered j l) .0);
-  below = λ j l. rw one-*ℤ (between (minimal j l) (ordered j l) .1);
+  above = λ j l. rw one-*ℤ (minimal-between (minimal j l) (ordered j l) .0);
+  below = λ j l. rw one-*ℤ (minimal-between (minimal j l) (ordered j l) .1);
 }

@@ -23,7 +23,7 @@ use Rattle.rules.specs.Answers.{refusalAt, stepRefusal}
 use Rattle.proof_magnitudes.specs.Minimal.{minimal-within}
 use Rattle.proof_magnitudes.specs.Opening.{at-zero}
 use Rattle.proof_magnitudes.specs.CostRange.{cheapestEnd, greatestEnd, cheapest-minimal, greatest-minimal, InCostRange, cost-in-range}
-use Rattle.proof_laws.specs.Places.{any-none}
+use Rattle.proof_laws.specs.Below.{any-none}
 use Rattle.proof_laws.specs.NotRefused.{otherwise-none, refuse-none}
 use Rattle.proof_magnitudes.specs.Steps.{entering, amounts, residuals, residuals-are, rule-1, amounts-minimal, entering-sign, sums-are, totals-are}
 use Rattle.proof_magnitudes.specs.Accepted.{Accepted, accepted}

@@ -8,7 +8,7 @@ use Rattle.rules.specs.Notation.{maxℤ}
 use Rattle.rules.specs.Problem.{Problem, Feasible, costOf}
 use Rattle.rules.specs.Step.{amount, residual, dualValue, lookAt, moved, next}
 use Rattle.rules.specs.Run.{startingMultiplier, start, stateAfter, lookAfter, lowAfter}
-use Rattle.proof_laws.specs.Places.{below-zero, below-suc}
+use Rattle.proof_laws.specs.Below.{below-zero, below-suc}
 use Rattle.proof_magnitudes.specs.Steps.{entering, amounts, residuals-are, leaving, rule-1, amounts-minimal, StartSign, entering-sign}
 use Rattle.proof_margins.specs.FourFacts.{FourFacts, Steps, four-facts}
 use Rattle.proof_margins.specs.WeakDuality.{weak-duality}

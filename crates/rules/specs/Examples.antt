@@ -18,7 +18,7 @@ use Rattle.rules.specs.Ranges.{ranges, indexOf, rangeOf}
 use Rattle.rules.specs.Record.{recordLength}
 use Rattle.rules.specs.Refusals.{layoutRefusal}
 use Rattle.rules.specs.Listing.{text}
-use Rattle.rules.specs.Rows.{_∶_, sizes, encode, hex, Row, Holds, All}
+use Rattle.rules.specs.Rows.{_∶_, sizes, encode, hex, Row, Holds, AllHold}
 use Rattle.rules.specs.Marked.{C1, C3, C7}
 
 -- a row for a refusal
@@ -47,8 +47,8 @@ examples =
     refusal-row (encode 1 0 1 1 1 (0 ∶ pos 0 ∷ 1 ∶ pos 1 ∷ [])) 42 Key 1 "refused 5 1\n" ∷
     []
 
-pub examples-hold : All examples
-unfolding Holds All
+pub examples-hold : AllHold examples
+unfolding Holds AllHold
 examples-hold = ((refl, refl, refl, refl), ((refl, refl, refl, refl), ((refl, refl, refl, refl), ((refl, refl, refl, refl), ((refl, refl, refl, refl), ((refl, refl, refl, refl), ((refl, refl, refl, refl), ((refl, refl, refl, refl), tt))))))))
 
 -- ---- more on the order of the refusals
@@ -68,8 +68,8 @@ order =
     refusal-row (encode 1 1 1024 1 2 (193 ∶ neg 1048576 ∷ [])) 38 Infeasible 1 "refused 9 1\n" ∷
     []
 
-pub order-holds : All order
-unfolding Holds All
+pub order-holds : AllHold order
+unfolding Holds AllHold
 order-holds = ((refl, refl, refl, refl), ((refl, refl, refl, refl), ((refl, refl, refl, refl), ((refl, refl, refl, refl), ((refl, refl, refl, refl), ((refl, refl, refl, refl), tt))))))
 
 -- ---- the ends of the ranges
@@ -123,8 +123,8 @@ ends =
     } ∷
     []
 
-pub ends-hold : All ends
-unfolding Holds All
+pub ends-hold : AllHold ends
+unfolding Holds AllHold
 ends-hold = ((refl, refl, refl, refl), ((refl, refl, refl, refl), ((refl, refl, refl, refl), ((refl, refl, refl, refl), ((refl, refl, refl, refl), ((refl, refl, refl, refl), ((refl, refl, refl, refl), ((refl, refl, refl, refl), ((refl, refl, refl, refl), ((refl, refl, refl, refl), ((refl, refl, refl, refl), ((refl, refl, refl, refl), ((refl, refl, refl, refl), ((refl, refl, refl, refl), ((refl, refl, refl, refl), ((refl, refl, refl, refl), ((refl, refl, refl, refl), ((refl, refl, refl, refl), ((refl, refl, refl, refl), ((refl, refl, refl, refl), ((refl, refl, refl, refl), ((refl, refl, refl, refl), ((refl, refl, refl, refl), ((refl, refl, refl, refl), ((refl, refl, refl, refl), ((refl, refl, refl, refl), ((refl, refl, refl, refl), ((refl, refl, refl, refl), ((refl, refl, refl, refl), tt)))))))))))))))))))))))))))))
 
 -- signed numbers of four bytes: the bytes of 0, 2^31 − 1, 2^31 and 2^32 − 1
@@ -201,6 +201,6 @@ steps =
     } ∷
     []
 
-pub steps-hold : All steps
-unfolding Holds All
+pub steps-hold : AllHold steps
+unfolding Holds AllHold
 steps-hold = ((refl, refl, refl, refl), ((refl, refl, refl, refl), ((refl, refl, refl, refl), tt)))

@@ -10,7 +10,7 @@ use Rattle.rules.specs.Sheet.{sheetOf, problem}
 use Rattle.rules.specs.Step.{reducedCost, greatestCost, cheapestCost}
 use Rattle.rules.specs.Run.{stateAfter, lookAfter}
 use Rattle.rules.specs.Listing.{text}
-use Rattle.rules.specs.Rows.{Entry, _∶_, encode, hex, Row, Holds, All}
+use Rattle.rules.specs.Rows.{Entry, _∶_, encode, hex, Row, Holds, AllHold}
 
 abbrev entries-C1 : List Entry
 entries-C1 = 0 ∶ pos 3 ∷ 1 ∶ pos 1 ∷ 128 ∶ pos 10 ∷ 129 ∶ pos 10 ∷ 192 ∶ neg 2 ∷ 193 ∶ neg 1 ∷ 194 ∶ neg 12 ∷ []
@@ -123,8 +123,8 @@ abbrev pub table : List Row
 table = C1 ∷ C2 ∷ C3 ∷ C4 ∷ C5 ∷ C6 ∷ C7 ∷ C8 ∷ C9 ∷ C10 ∷ []
 
 -- They follow from the definitions.
-pub marked : All table
-unfolding Holds All
+pub marked : AllHold table
+unfolding Holds AllHold
 marked = ((refl, refl, refl, refl), ((refl, refl, refl, refl), ((refl, refl, refl, refl), ((refl, refl, refl, refl), ((refl, refl, refl, refl), ((refl, refl, refl, refl), ((refl, refl, refl, refl), ((refl, refl, refl, refl), ((refl, refl, refl, refl), ((refl, refl, refl, refl), tt))))))))))
 
 -- ---- what document 01 says of the steps of C1 and C3

@@ -81,6 +81,6 @@ Holds r =
     (textFrom (answer (r .sheet) (r .room)) (bufferAfter (r .sheet) (lent (r .room))) ≡ r .listing)
 
 -- every row of a table holds
-unfoldable pub All : List Row → Type 0
-All [] = Unit {0}
-All (r ∷ rs) = Holds r × All rs
+unfoldable pub AllHold : List Row → Type 0
+AllHold [] = Unit {0}
+AllHold (r ∷ rs) = Holds r × AllHold rs

@@ -4,8 +4,7 @@ use mathlib.Core.Option.{none}
 use Prim.Native.Nat.{ℕ, _≤_}
 use native.Mathlib.Nat.{le-trans}
 use lib.Dec.{lit≤}
-use lib.IntN.{ℤ, pos, _*ℤ_, +ℤ-idl}
-use mir.Syntax.{w32}
+use lib.IntN.{ℤ, +ℤ-idl}
 use Rattle.proof_integer.specs.Range.{bnd-sfits}
 use Rattle.rules.specs.Notation.{at}
 use Rattle.rules.specs.Problem.{Problem, costOf}
@@ -17,7 +16,6 @@ use Rattle.proof_magnitudes.specs.Magnitudes.{CostMagnitudes, amounts-bnd, cost
 use Rattle.proof_magnitudes.specs.RunMagnitudes.{run-magnitudes}
 use Rattle.sheet_figures.specs.declared.Figures.{Figures}
 use Rattle.sheet_figures.specs.Figures.{problemOf}
-use Rattle.run_sums.specs.SumsFit.{SumFits}
 use Rattle.run_costs.specs.Costs.{materialsOnly, costsOnly, CostFits, GapFits}
 
 -- the cost of amounts of at most 1,000

@@ -12,7 +12,7 @@ use mir.Val.{SFits}
 use Rattle.rules.specs.Notation.{tabulate, at}
 use Rattle.rules.specs.Problem.{Problem}
 use Rattle.rules.specs.Step.{anyBelow, moved, diverged}
-use Rattle.proof_laws.specs.Places.{any-found}
+use Rattle.proof_laws.specs.Below.{any-found}
 use Rattle.sheet_figures.specs.Figures.{problemIn}
 use Rattle.run_totals.specs.Changed.{Changed}
 

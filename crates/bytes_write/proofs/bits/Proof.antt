@@ -10,7 +10,7 @@ use mir.Syntax.{w64}
 use mir.Val.{SFits, Fits}
 use mir.Facts.{toZ-ofZ, toZ-pos}
 use borrow.Author.Tests.{ltb-true}
-use Rattle.proof_integer.specs.Range.{below-zero}
+use Rattle.proof_integer.specs.Range.{mag-below-zero}
 use Rattle.bytes_write.specs.Number.{bits64}
 use Rattle.bytes_write.proofs.bits.Statement.{statement}
 use Rattle.bytes_write.proofs.bits.Tie as tie
@@ -43,20 +43,20 @@ module _ (c : tie.Then1) where
   test = simp (toZ-ofZ fits) at (c .if1 .taken)
 
 sub-result : tie.Need-sub-result
-sub-result c = simp (toZ-ofZ (fits c), below-zero (v c) (test c)) (record { sfits = fits c .sfits })
+sub-result c = simp (toZ-ofZ (fits c), mag-below-zero (v c) (test c)) (record { sfits = fits c .sfits })
 
 cast-result : tie.Need-cast-result
 cast-result c =
-    simp (toZ-ofZ (fits c), below-zero (v c) (test c), toZ-pos w64 (fits c .sfits))
+    simp (toZ-ofZ (fits c), mag-below-zero (v c) (test c), toZ-pos w64 (fits c .sfits))
     (tt, record { fits = omega (arith, fits c .sfits) })
 
 sub-result-2 : tie.Need-sub-result-2
 sub-result-2 c =
-    simp (toZ-ofZ (fits c), below-zero (v c) (test c), toZ-pos w64 (fits c .sfits)) (omega (arith, fits c .sfits))
+    simp (toZ-ofZ (fits c), mag-below-zero (v c) (test c), toZ-pos w64 (fits c .sfits)) (omega (arith, fits c .sfits))
 
 returns : tie.Need-returns
 returns c =
-    simp (toZ-ofZ (fits c), below-zero (v c) (test c), toZ-pos w64 (fits c .sfits)) (below-bits (v c) (test c))
+    simp (toZ-ofZ (fits c), mag-below-zero (v c) (test c), toZ-pos w64 (fits c .sfits)) (below-bits (v c) (test c))
 
 module _ (c : tie.Else1) where
   is-natural : Natural (c .before .args .v)

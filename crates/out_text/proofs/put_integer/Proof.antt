@@ -12,7 +12,7 @@ use lib.Signed.{ltZ, mag}
 use mir.Syntax.{w64}
 use mir.Val.{SFits, toZ, ofZ}
 use mir.Facts.{toZ-ofZ, toZ-pos}
-use Rattle.proof_integer.specs.Range.{below-zero}
+use Rattle.proof_integer.specs.Range.{mag-below-zero}
 use Rattle.rules.specs.Listing.{text, decimal}
 use Rattle.out_text.specs.Growing.{then}
 use Rattle.out_text.proofs.put_integer.Statement.{statement}
@@ -42,7 +42,7 @@ module _ (c : tie.Then1) where
 
   -- −1 − v, and what its bits stand for
   less : negsuc 0 -ℤ toZ w64 (ofZ w64 v) ≡ pos (mag v)
-  less = simp (toZ-ofZ fits) (below-zero v negative)
+  less = simp (toZ-ofZ fits) (mag-below-zero v negative)
 
   less-bits : toZ w64 (ofZ w64 (negsuc 0 -ℤ toZ w64 (ofZ w64 v))) ≡ pos (mag v)
   less-bits = rw less (toZ-pos w64 (fits .sfits))

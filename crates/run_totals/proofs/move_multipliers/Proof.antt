@@ -18,7 +18,7 @@ use Rattle.proof_integer.specs.Vector.{at-tabulate}
 use Rattle.rules.specs.Notation.{maxℤ, at}
 use Rattle.rules.specs.Problem.{Problem}
 use Rattle.rules.specs.Step.{anyBelow, moved, diverged}
-use Rattle.proof_laws.specs.Places.{any-start, any-more, any-found}
+use Rattle.proof_laws.specs.Below.{any-start, any-more, any-found}
 use Rattle.run_totals.specs.Moves.{limitsMoved, tooLarge, places-all, places-found}
 use Rattle.run_totals.specs.Changed.{Changed, changed-start, changed-next, changed-end}
 use Rattle.run_totals.proofs.move_multipliers.Statement.{statement}
