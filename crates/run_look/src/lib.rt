@@ -4,7 +4,7 @@ ghost use Rattle.rules.specs.Notation.{tabulate, at};
 ghost use Rattle.rules.specs.Step.{amount, residual, lookAt};
 ghost use Rattle.sheet_figures.specs.Figures.{problemIn};
 ghost use Rattle.sheet_figures.specs.Padded.{padded};
-ghost use Rattle.run_look.specs.Given.{withoutRhs, limitsOnly, lookIn};
+ghost use Rattle.run_look.specs.Given.{withoutRhs, limitsOnly, LookIn};
 ghost use Rattle.run_look.specs.LookFits.{AmountsFit, ResidualsFit, LookFits};
 use run_arithmetic::end_by;
 use run_costs::scaled_cost;
@@ -12,17 +12,9 @@ use run_sums::dot_32;
 use run_sums::dot_64;
 use run_sums::dot_column_64;
 
-// What a look gives. Places from n and from m on hold 0.
-pub struct Look {
-    // x_j at place j
-    pub amounts: [i16; 32],
-    // residual i ("miss") at place i
-    pub residuals: [i32; 16],
-    pub value: i64,
-}
-
-// The amounts ("step amounts") at given multipliers: each material takes the end that its reduced cost ("weight") chooses.
-fn amounts<'a>(
+// The amounts ("step amounts") at given multipliers, into an array of zeros: each material takes the end that its reduced
+// cost ("weight") chooses.
+fn choose_amounts<'a>(
     n: usize,
     m: usize,
     scale: usize,
@@ -31,45 +23,44 @@ fn amounts<'a>(
     most: &'a [i16; 32],
     coefficient: &'a [i16; 512],
     multipliers: &'a [i32; 16],
-) -> [i16; 32]
-    requires { ⌜ AmountsFit (withoutRhs n m scale (now cost) (now least) (now most) (now coefficient)) (at (now multipliers)) ⌝ }
-    ensures { λ r. ⌜ r ≡ padded 32 (tabulate n (amount
+    amounts: &'a mut [i16; 32],
+)
+    requires { ⌜ AmountsFit (withoutRhs n m scale (now cost) (now least) (now most) (now coefficient)) (at (now multipliers)) (now amounts) ⌝ }
+    ensures { λ _. ⌜ now (amounts .exit) ≡ padded 32 (tabulate n (amount
         (withoutRhs n m scale (now (cost .entry)) (now (least .entry)) (now (most .entry)) (now (coefficient .entry)))
         (at (now (multipliers .entry))))) ⌝ }
 {
     let d = scale as i64;
-    let mut x: [i16; 32] = [0; 32];
     let mut j: usize = 0;
     while j < n {
         let reduced = dot_column_64(m, d * (cost[j] as i64), multipliers, coefficient, j, 32);
-        x[j] = end_by(reduced, least[j], most[j]);
+        amounts[j] = end_by(reduced, least[j], most[j]);
         j += 1;
     }
-    x
 }
 
-// The residuals ("misses") of amounts: what limit i keeps under b_i, less b_i.
-fn residuals<'a>(
+// The residuals ("misses") of amounts, into an array of zeros: what limit i keeps under b_i, less b_i.
+fn take_residuals<'a>(
     n: usize,
     m: usize,
     coefficient: &'a [i16; 512],
     rhs: &'a [i32; 16],
     amounts: &'a [i16; 32],
-) -> [i32; 16]
-    requires { ⌜ ResidualsFit (limitsOnly n m (now coefficient) (now rhs)) (at (now amounts)) ⌝ }
-    ensures { λ r. ⌜ r ≡ padded 16 (tabulate m (residual (limitsOnly n m (now (coefficient .entry)) (now (rhs .entry)))
-        (at (now (amounts .entry))))) ⌝ }
+    residuals: &'a mut [i32; 16],
+)
+    requires { ⌜ ResidualsFit (limitsOnly n m (now coefficient) (now rhs)) (at (now amounts)) (now residuals) ⌝ }
+    ensures { λ _. ⌜ now (residuals .exit) ≡ padded 16 (tabulate m (residual
+        (limitsOnly n m (now (coefficient .entry)) (now (rhs .entry))) (at (now (amounts .entry))))) ⌝ }
 {
-    let mut g: [i32; 16] = [0; 16];
     let mut i: usize = 0;
     while i < m {
-        g[i] = dot_32(n, coefficient, 32 * i, amounts) - rhs[i];
+        residuals[i] = dot_32(n, coefficient, 32 * i, amounts) - rhs[i];
         i += 1;
     }
-    g
 }
 
-// The look at given multipliers.
+// The look at given multipliers: the dual value ("step value"), with the amounts and the residuals in two lent arrays,
+// which are to hold zeros. Places from n and from m on keep them.
 pub fn look_at<'a>(
     n: usize,
     m: usize,
@@ -80,18 +71,31 @@ pub fn look_at<'a>(
     coefficient: &'a [i16; 512],
     rhs: &'a [i32; 16],
     multipliers: &'a [i32; 16],
-) -> Look
-    requires { ⌜ LookFits (problemIn n m 0 scale (now cost) (now least) (now most) (now coefficient) (now rhs)) (at (now multipliers)) ⌝ }
-    ensures { λ r. ⌜ r ≡ lookIn (lookAt
+    amounts: &'a mut [i16; 32],
+    residuals: &'a mut [i32; 16],
+) -> i64
+    requires { ⌜ LookFits (problemIn n m 0 scale (now cost) (now least) (now most) (now coefficient) (now rhs)) (at (now multipliers))
+        (now amounts) (now residuals) ⌝ }
+    ensures { λ r. ⌜ LookIn (lookAt
         (problemIn n m 0 scale (now (cost .entry)) (now (least .entry)) (now (most .entry)) (now (coefficient .entry)) (now (rhs .entry)))
-        (at (now (multipliers .entry)))) ⌝ }
+        (at (now (multipliers .entry)))) (now (amounts .exit)) (now (residuals .exit)) r ⌝ }
 {
-    let x = amounts(n, m, scale, cost, least, most, coefficient, multipliers);
-    let g = residuals(n, m, coefficient, rhs, &x);
-    let value = dot_64(m, scaled_cost(n, scale, cost, &x), multipliers, &g);
-    Look {
-        amounts: x,
-        residuals: g,
-        value: value,
-    }
+    choose_amounts(
+        n,
+        m,
+        scale,
+        cost,
+        least,
+        most,
+        coefficient,
+        multipliers,
+        amounts,
+    );
+    take_residuals(n, m, coefficient, rhs, amounts, residuals);
+    dot_64(
+        m,
+        scaled_cost(n, scale, cost, amounts),
+        multipliers,
+        residuals,
+    )
 }

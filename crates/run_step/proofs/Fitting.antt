@@ -3,6 +3,7 @@ use mathlib.Core.Path.{_≡_, refl, sym, ap, subst}
 use Prim.Native.Nat.{ℕ, _≤_}
 use native.Mathlib.Nat.{lt-of-lt-of-le}
 use lib.IntN.{ℤ, pos, _+ℤ_, _*ℤ_, +ℤ-idl}
+use lib.ListN.{replicate}
 use mir.Syntax.{w32, w64}
 use mir.Val.{SFits}
 use Rattle.proof_integer.specs.Range.{bnd-sfits}
@@ -34,8 +35,9 @@ module _ (f : Figures) {k : ℕ} (accepted : Accepted (problemOf f) k) (t : ℕ)
   abbrev P : Problem
   P = problemOf f
 
-  amounts-fit : AmountsFit P (entering P t)
+  amounts-fit : AmountsFit P (entering P t) (replicate 32 (pos 0))
   amounts-fit = record {
+    empty = refl;
     narrow = accepted .materials-few;
     few = accepted .limits-few;
     scale = accepted .scale-small;
@@ -43,9 +45,10 @@ module _ (f : Figures) {k : ℕ} (accepted : Accepted (problemOf f) k) (t : ℕ)
     reduced = λ j l. record { one = λ i h. large .step .reduced-term i j h l .fits; part = λ i h. large .step .reduced-part i j h l .fits };
   }
 
-  residuals-fit : ResidualsFit P (amounts P t)
+  residuals-fit : ResidualsFit P (amounts P t) (replicate 16 (pos 0))
   unfolding residual loadOf
   residuals-fit = record {
+    empty = refl;
     narrow = accepted .materials-few;
     few = accepted .limits-few;
     load = λ i l. record {
@@ -66,19 +69,26 @@ module _ (f : Figures) {k : ℕ} (accepted : Accepted (problemOf f) k) (t : ℕ)
           → sumTo m (λ i. entering P t i *ℤ residual P (amounts P t) i) ≡ sumTo m (λ i. entering P t i *ℤ residuals P t i)
       by-residuals m l = sumTo-cong m _ _ (λ i h. ap (λ g. entering P t i *ℤ g) (sym (residuals-are P t i (lt-of-lt-of-le h l))))
 
-  pub look-fits : LookFits (lookedAt f) (entering P t)
+  pub look-fits : LookFits (lookedAt f) (entering P t) (replicate 32 (pos 0)) (replicate 16 (pos 0))
   unfolding lookAfter lookAt amount reducedCost residual loadOf dualValue costOf
   look-fits =
       let cost = cost-fits accepted (amounts P t) (large .step .step-cost) in
       record {
-        amounts = record {
+        amounts-fit = record {
+          empty = amounts-fit .empty;
           narrow = amounts-fit .narrow;
           few = amounts-fit .few;
           scale = amounts-fit .scale;
           scaled-cost = amounts-fit .scaled-cost;
           reduced = amounts-fit .reduced;
         };
-        residuals = record { narrow = residuals-fit .narrow; few = residuals-fit .few; load = residuals-fit .load; whole = residuals-fit .whole };
+        residuals-fit = record {
+          empty = residuals-fit .empty;
+          narrow = residuals-fit .narrow;
+          few = residuals-fit .few;
+          load = residuals-fit .load;
+          whole = residuals-fit .whole;
+        };
         cost = record { narrow = cost .narrow; scale = cost .scale; sum = cost .sum; scaled = cost .scaled };
         value = value-fits;
       }

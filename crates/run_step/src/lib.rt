@@ -52,7 +52,9 @@ impl State {
         ensures { λ r. ⌜ AfterSteps (problemOf f) (suc t) (refusalAt (problemOf f) t) r ⌝ }
     {
         let mut w = self;
-        let q = look_at(
+        let mut x: [i16; 32] = [0; 32];
+        let mut g: [i32; 16] = [0; 16];
+        let value = look_at(
             f.materials,
             f.limits,
             f.scale,
@@ -62,16 +64,17 @@ impl State {
             &f.coefficient,
             &f.rhs,
             &w.multipliers,
+            &mut x,
+            &mut g,
         );
-        let value = q.value;
         if greatest < value {
             return stopped(self, t, Cause::Infeasible);
         }
-        if move_multipliers(f.limits, f.numerator, &mut w.multipliers, &q.residuals) {
+        if move_multipliers(f.limits, f.numerator, &mut w.multipliers, &g) {
             return stopped(self, t, Cause::Diverged);
         }
-        add_amounts(f.materials, &mut w.sums, &q.amounts);
-        add_residuals(f.limits, &mut w.totals, &q.residuals);
+        add_amounts(f.materials, &mut w.sums, &x);
+        add_residuals(f.limits, &mut w.totals, &g);
         let low = w.low;
         w.low = larger(low, value);
         Stepped {

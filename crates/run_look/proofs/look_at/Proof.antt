@@ -1,5 +1,6 @@
 -- Each call gives what the look at these multipliers works out.
 use mathlib.Core.Path.{_≡_, sym, ap, subst, _∙_}
+use mathlib.Core.List.{List}
 use Prim.Native.Nat.{ℕ}
 use lib.IntN.{ℤ, pos, _+ℤ_, _*ℤ_}
 use mir.Syntax.{w64}
@@ -10,65 +11,80 @@ use Rattle.proof_integer.specs.Sum.{sumTo-cong}
 use Rattle.proof_integer.specs.Vector.{length-tabulate, at-tabulate}
 use Rattle.rules.specs.Notation.{sumTo, tabulate, at}
 use Rattle.rules.specs.Problem.{Problem, costOf, loadOf}
-use Rattle.rules.specs.Step.{reducedCost, amount, residual, dualValue, lookAt}
-use Rattle.rules.specs.Step as step
+use Rattle.rules.specs.Step.{Look, reducedCost, amount, residual, dualValue, lookAt}
 use Rattle.sheet_figures.specs.Figures.{problemIn}
 use Rattle.sheet_figures.specs.Padded.{padded, at-padded}
 use Rattle.run_sums.specs.SumsFit.{SumFits}
 use Rattle.run_costs.specs.Costs.{CostFits}
-use Rattle.run_look.specs.Given.{lookIn}
 use Rattle.run_look.specs.LookFits.{ResidualsFit}
 use Rattle.run_look.proofs.look_at.Statement.{statement}
 use Rattle.run_look.proofs.look_at.Tie as tie
 
 module _ (s : tie.Start) where
   abbrev P : Problem
-  P = problemIn (s .args .n) (s .args .m) 0 (s .args .scale) (s .args .cost .now) (s .args .least .now) (s .args .most .now) (s .args .coefficient .now) (s .args .rhs .now)
+  P =
+      problemIn (s .args .n) (s .args .m) 0 (s .args .scale) (s .args .cost .now) (s .args .least .now) (s .args .most .now)
+      (s .args .coefficient .now) (s .args .rhs .now)
 
   abbrev M : ℕ → ℤ
   M = at (s .args .multipliers .now)
 
   -- what the look is to be
-  abbrev q : step.Look
+  abbrev q : Look
   q = lookAt P M
 
 -- ---- the amounts
-amounts-requires : tie.Need-amounts-requires
-amounts-requires c κs =
-    let fits = c .pre .amounts in
-    record { narrow = fits .narrow; few = fits .few; scale = fits .scale; scaled-cost = fits .scaled-cost; reduced = fits .reduced }
+choose-amounts-requires : tie.Need-choose-amounts-requires
+choose-amounts-requires c κs =
+    let fits = c .before .pre .amounts-fit in
+    record {
+      empty = fits .empty;
+      narrow = fits .narrow;
+      few = fits .few;
+      scale = fits .scale;
+      scaled-cost = fits .scaled-cost;
+      reduced = fits .reduced;
+    }
 
-module _ (c : tie.After-amounts) where
+module _ (c : tie.After-choose-amounts) where
   abbrev s : tie.Start
-  s = c .before
+  s = c .before .before
 
-  x-is : c .amounts .result ≡ padded 32 (q s .amounts)
+  abbrev chosen : List ℤ
+  chosen = c .choose-amounts .last .1 .1 .1 .1 .1 .1 .1 .1 .0
+
+  x-is : chosen ≡ padded 32 (q s .amounts)
   unfolding lookAt amount reducedCost
-  x-is = c .amounts .ensures
+  x-is = c .choose-amounts .ensures
 
-  x-reads : at (c .amounts .result) ≡ at (q s .amounts)
+  x-reads : at chosen ≡ at (q s .amounts)
   unfolding lookAt
-  x-reads = (λ k. at (x-is k)) ∙ at-padded 32 (q s .amounts) (rw length-tabulate (s .pre .amounts .narrow))
+  x-reads = (λ k. at (x-is k)) ∙ at-padded 32 (q s .amounts) (rw length-tabulate (s .pre .amounts-fit .narrow))
 
 -- ---- the residuals
-residuals-requires : tie.Need-residuals-requires
+take-residuals-requires : tie.Need-take-residuals-requires
 unfolding residual loadOf
-residuals-requires c κs =
-    let a = c .before in
-    let fits = subst (ResidualsFit (P (s a))) (sym (x-reads a)) (s a .pre .residuals) in
-    record { narrow = fits .narrow; few = fits .few; load = fits .load; whole = fits .whole }
+take-residuals-requires c κs =
+    let a = c .before .before in
+    let fits = subst (λ (x : ℕ → ℤ). ResidualsFit (P (s a)) x (s a .args .residuals .now)) (sym (x-reads a)) (s a .pre .residuals-fit) in
+    record { empty = fits .empty; narrow = fits .narrow; few = fits .few; load = fits .load; whole = fits .whole }
 
-module _ (c : tie.After-residuals) where
-  abbrev at-x : tie.After-amounts
-  at-x = c .before .before
+module _ (c : tie.After-take-residuals) where
+  abbrev at-x : tie.After-choose-amounts
+  at-x = c .before .before .before
 
-  g-is : c .residuals .result ≡ padded 16 (q (s at-x) .residuals)
+  abbrev taken : List ℤ
+  taken = c .take-residuals .last .1 .1 .1 .1 .1 .0
+
+  g-is : taken ≡ padded 16 (q (s at-x) .residuals)
   unfolding lookAt residual loadOf
-  g-is = c .residuals .ensures ∙ (λ k. padded 16 (tabulate (P (s at-x) .limits) (residual (P (s at-x)) (x-reads at-x k))))
+  g-is =
+      c .take-residuals .ensures
+      ∙ (λ k. padded 16 (tabulate (P (s at-x) .limits) (residual (P (s at-x)) (x-reads at-x k))))
 
-  g-reads : at (c .residuals .result) ≡ at (q (s at-x) .residuals)
+  g-reads : at taken ≡ at (q (s at-x) .residuals)
   unfolding lookAt
-  g-reads = (λ k. at (g-is k)) ∙ at-padded 16 (q (s at-x) .residuals) (rw length-tabulate (s at-x .pre .amounts .few))
+  g-reads = (λ k. at (g-is k)) ∙ at-padded 16 (q (s at-x) .residuals) (rw length-tabulate (s at-x .pre .amounts-fit .few))
 
 -- ---- the dual value
 scaled-cost-requires : tie.Need-scaled-cost-requires
@@ -79,7 +95,7 @@ scaled-cost-requires c κs =
     record { narrow = fits .narrow; scale = fits .scale; sum = fits .sum; scaled = fits .scaled }
 
 module _ (c : tie.After-scaled-cost) where
-  abbrev at-g : tie.After-residuals
+  abbrev at-g : tie.After-take-residuals
   at-g = c .before .before
 
   abbrev s-v : tie.Start
@@ -96,31 +112,35 @@ dot-64-requires c κs =
     let a = c .before in
     rw (cost-is a)
     (record {
-      few = s-v a .pre .amounts .few;
+      few = s-v a .pre .amounts-fit .few;
       sum =
-          subst (λ (g : ℕ → ℤ). SumFits w64 (pos (P (s-v a) .scale) *ℤ costOf (P (s-v a)) (at (q (s-v a) .amounts))) (λ i. M (s-v a) i *ℤ g i) (P (s-v a) .limits))
+          subst
+          (λ (g : ℕ → ℤ). SumFits w64 (pos (P (s-v a) .scale) *ℤ costOf (P (s-v a)) (at (q (s-v a) .amounts))) (λ i. M (s-v a) i *ℤ g i) (P (s-v a) .limits))
           (sym (g-reads (at-g a))) (s-v a .pre .value);
     })
 
--- the dual value, from the residuals that the look has worked out
+-- from the residuals that the look has worked out
 value-of : (P : Problem) (M : ℕ → ℤ)
-    → pos (P .scale) *ℤ costOf P (at (lookAt P M .amounts)) +ℤ sumTo (P .limits) (λ i. M i *ℤ at (lookAt P M .residuals) i) ≡ lookAt P M .dualValue
+    → pos (P .scale) *ℤ costOf P (at (lookAt P M .amounts)) +ℤ sumTo (P .limits) (λ i. M i *ℤ at (lookAt P M .residuals) i)
+    ≡ lookAt P M .dualValue
 unfolding lookAt dualValue
 value-of P M =
     ap (λ z. pos (P .scale) *ℤ costOf P (at (lookAt P M .amounts)) +ℤ z)
     (sumTo-cong (P .limits) _ _ (λ i l. ap (λ g. M i *ℤ g) (at-tabulate (P .limits) (residual P (at (lookAt P M .amounts))) i l)))
 
 returns : tie.Need-returns
-unfolding lookIn
 returns c =
     let a = c .before .before in
     let fits : SFits w64 (c .dot-64 .result) = search needs in
-    let value =
-    toZ-ofZ fits ∙ c .dot-64 .ensures
-    ∙ (λ k. cost-is a k +ℤ sumTo (P (s-v a) .limits) (λ i. M (s-v a) i *ℤ g-reads (at-g a) k i))
-    ∙ value-of (P (s-v a)) (M (s-v a)) in
-    λ k. record { amounts = x-is (at-x (at-g a)) k; residuals = g-is (at-g a) k; value = value k }
+    record {
+      amounts-are = x-is (at-x (at-g a));
+      residuals-are = g-is (at-g a);
+      value-is =
+          toZ-ofZ fits ∙ c .dot-64 .ensures
+          ∙ (λ k. cost-is a k +ℤ sumTo (P (s-v a) .limits) (λ i. M (s-v a) i *ℤ g-reads (at-g a) k i))
+          ∙ value-of (P (s-v a)) (M (s-v a));
+    }
 
 pub look-at-spec : {M : Type 1} → statement M
 look-at-spec =
-    tie.close (tie.spec amounts-requires residuals-requires scaled-cost-requires dot-64-requires returns)
+    tie.close (tie.spec choose-amounts-requires take-residuals-requires scaled-cost-requires dot-64-requires returns)

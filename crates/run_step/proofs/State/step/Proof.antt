@@ -1,8 +1,10 @@
 -- The look gives what step t works out, and what comes back is what the step hands back.
 use mathlib.Core.Path.{_≡_, refl, sym, subst, transport, _∙_}
 use mathlib.Core.Bool.{false}
+use mathlib.Core.List.{List}
 use Prim.Native.Nat.{ℕ, suc}
-use lib.IntN.{_+ℤ_}
+use lib.IntN.{ℤ, pos, _+ℤ_}
+use lib.ListN.{replicate}
 use lib.Signed.{ltZ}
 use mir.Syntax.{w32, w64}
 use mir.Val.{SFits, toZ, ofZ}
@@ -20,7 +22,6 @@ use Rattle.proof_magnitudes.specs.RunMagnitudes.{RunMagnitudes, run-magnitudes}
 use Rattle.sheet_figures.specs.declared.Figures.{Figures}
 use Rattle.sheet_figures.specs.Padded.{padded}
 use Rattle.sheet_figures.specs.Figures.{problemOf}
-use Rattle.run_look.specs.Given.{lookIn}
 use Rattle.run_look.specs.LookFits.{LookFits}
 use Rattle.run_totals.specs.Moves.{limitsMoved, MoveFits, places-all}
 use Rattle.run_totals.specs.Totals.{TotalsFit}
@@ -65,53 +66,60 @@ module _ (s : tie.Start) where
   totals-are = totals-read accepted t (λ k. state-is k .totals)
 
 -- ---- the look
-abbrev s-look : tie.After-look-at-arg6 → tie.Start
-s-look c = c .before .before .before .before .before .before .before .before
+abbrev s-look : tie.After-g → tie.Start
+s-look c = c .before .before .before .before .before .before .before .before .before .before
 
 look-at-requires : tie.Need-look-at-requires
-look-at-requires c κs = let s = s-look c in subst (LookFits (lookedAt (f s))) (sym (M-is s)) (look-fits (f s) (accepted s) (t s) (large s))
+look-at-requires c κs =
+    let s = s-look c in
+    subst (λ (M : ℕ → ℤ). LookFits (lookedAt (f s)) M (replicate 32 (pos 0)) (replicate 16 (pos 0))) (sym (M-is s))
+    (look-fits (f s) (accepted s) (t s) (large s))
 
 module _ (c : tie.After-look-at) where
   abbrev s-q : tie.Start
   s-q = s-look (c .before)
 
-  q-is : c .look-at .result ≡ lookIn (lookAfter (P s-q) (t s-q))
+  -- the two arrays after the look
+  abbrev x : List ℤ
+  x = c .look-at .last .1 .1 .1 .1 .1 .1 .1 .1 .1 .0
+
+  abbrev g : List ℤ
+  g = c .look-at .last .1 .1 .1 .1 .1 .1 .1 .1 .1 .1 .0
+
+  q-is : lookAt (lookedAt (f s-q)) (at (s-q .args .self .multipliers)) ≡ lookAfter (P s-q) (t s-q)
   unfolding lookAfter
-  q-is =
-      c .look-at .ensures
-      ∙ (λ k. lookIn (same-look (f s-q) (at (s-q .args .self .multipliers)) k))
-      ∙ (λ k. lookIn (lookAt (P s-q) (M-is s-q k)))
+  q-is = same-look (f s-q) (at (s-q .args .self .multipliers)) ∙ (λ k. lookAt (P s-q) (M-is s-q k))
 
-  x-reads : at (c .look-at .result .amounts) ≡ amounts (P s-q) (t s-q)
-  unfolding lookIn
-  x-reads = reads 32 _ (λ k. q-is k .amounts) (amounts-length (P s-q) (t s-q)) (accepted s-q .materials-few)
+  x-reads : at x ≡ amounts (P s-q) (t s-q)
+  x-reads =
+      reads 32 _ (c .look-at .ensures .amounts-are ∙ (λ k. padded 32 (q-is k .amounts)))
+      (amounts-length (P s-q) (t s-q)) (accepted s-q .materials-few)
 
-  g-reads : at (c .look-at .result .residuals) ≡ residuals (P s-q) (t s-q)
-  unfolding lookIn
-  g-reads = reads 16 _ (λ k. q-is k .residuals) (residuals-length (P s-q) (t s-q)) (accepted s-q .limits-few)
+  g-reads : at g ≡ residuals (P s-q) (t s-q)
+  g-reads =
+      reads 16 _ (c .look-at .ensures .residuals-are ∙ (λ k. padded 16 (q-is k .residuals)))
+      (residuals-length (P s-q) (t s-q)) (accepted s-q .limits-few)
 
-  value-fits : SFits w64 (c .look-at .result .value)
-  value-fits = search needs
-
-  value-is : toZ w64 (ofZ w64 (c .look-at .result .value)) ≡ lookAfter (P s-q) (t s-q) .dualValue
-  unfolding lookIn
-  value-is = toZ-ofZ value-fits ∙ (λ k. q-is k .value)
+  value-is : toZ w64 (ofZ w64 (c .look-at .result)) ≡ lookAfter (P s-q) (t s-q) .dualValue
+  value-is =
+      let fits : SFits w64 (c .look-at .result) = search needs in
+      toZ-ofZ fits ∙ c .look-at .ensures .value-is ∙ (λ k. q-is k .dualValue)
 
   -- rule 3 is the test
-  test-9 : ltZ (toZ w64 (ofZ w64 (s-q .args .greatest))) (toZ w64 (ofZ w64 (c .look-at .result .value))) ≡ infeasible (P s-q) (lookAfter (P s-q) (t s-q))
+  test-9 : ltZ (toZ w64 (ofZ w64 (s-q .args .greatest))) (toZ w64 (ofZ w64 (c .look-at .result))) ≡ infeasible (P s-q) (lookAfter (P s-q) (t s-q))
   unfolding infeasible
   test-9 = λ k. ltZ ((toZ-ofZ (s-q .fits .greatest) ∙ s-q .pre .greatest-is) k) (value-is k)
 
 returns : tie.Need-returns
 unfolding numbered numberOf
 returns c =
-    let q = c .before .before .before in
+    let q = c .before .before in
     let s = s-q q in
     hands-stop (P s) (suc (t s)) _ (c .stopped .ensures) (refused-9 (P s) (t s) (sym (test-9 q) ∙ c .before .if1 .taken)) (state-is s)
 
 -- ---- the move
-abbrev q-move : tie.After-move-multipliers-arg2 → tie.After-look-at
-q-move c = c .before .before .before .before .before
+abbrev q-move : tie.After-g2 → tie.After-look-at
+q-move c = c .before .before .before
 
 move-multipliers-requires : tie.Need-move-multipliers-requires
 move-multipliers-requires c κs =
@@ -127,10 +135,10 @@ module _ (c : tie.After-move-multipliers) where
   s-m = s-q at-q
 
   feasible : infeasible (P s-m) (lookAfter (P s-m) (t s-m)) ≡ false
-  feasible = sym (test-9 at-q) ∙ c .before .before .before .before .if1 .left
+  feasible = sym (test-9 at-q) ∙ c .before .before .before .if1 .left
 
   -- the multipliers after the step, as the code moves them
-  moves-are : tabulate (P s-m .limits) (moved (P s-m) (at (s-m .args .self .multipliers)) (at (at-q .look-at .result .residuals)))
+  moves-are : tabulate (P s-m .limits) (moved (P s-m) (at (s-m .args .self .multipliers)) (at (g at-q)))
       ≡ stateAfter (P s-m) (suc (t s-m)) .multipliers
   unfolding stateAfter next lookAfter
   moves-are = λ k. tabulate (P s-m .limits) (moved (P s-m) (M-is s-m k) (g-reads at-q k))
@@ -164,13 +172,13 @@ module _ (c : tie.Else2) where
 
 add-amounts-requires : tie.Need-add-amounts-requires
 add-amounts-requires c κs =
-    let e = c .before .before .before in
+    let e = c .before .before in
     let s = s-e e in
     transport (λ k. TotalsFit w32 32 (f s .materials) (sym (sums-are s) k) (sym (x-reads (q-e e)) k)) (sums-fit (f s) (accepted s) (t s) (large s))
 
 add-residuals-requires : tie.Need-add-residuals-requires
 add-residuals-requires c κs =
-    let e = c .before .before .before .before .before .before .before in
+    let e = c .before .before .before .before .before in
     let s = s-e e in
     transport (λ k. TotalsFit w64 16 (f s .limits) (sym (totals-are s) k) (sym (g-reads (q-e e)) k)) (totals-fit (f s) (accepted s) (t s) (large s))
 
@@ -180,10 +188,10 @@ module _ (c : tie.After-larger) where
   totals-of = c .before .before
 
   abbrev sums-of : tie.After-add-amounts
-  sums-of = totals-of .before .before .before .before
+  sums-of = totals-of .before .before .before
 
   abbrev going : tie.Else2
-  going = sums-of .before .before .before .before
+  going = sums-of .before .before .before
 
   abbrev s-l : tie.Start
   s-l = s-e going

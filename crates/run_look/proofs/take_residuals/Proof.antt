@@ -1,5 +1,5 @@
 -- After i turns the first i places hold their residuals.
-use mathlib.Core.Path.{_≡_, sym}
+use mathlib.Core.Path.{_≡_, sym, _∙_}
 use Prim.Native.Nat.{ℕ, _-_, _<_, _≤_}
 use native.Mathlib.Omega.{arith}
 use lib.IntN.{ℤ, _-ℤ_}
@@ -12,14 +12,14 @@ use Rattle.rules.specs.Problem.{Problem, loadOf}
 use Rattle.rules.specs.Step.{residual}
 use Rattle.sheet_figures.specs.Padded.{filled, fill-start, fill-next, fill-end}
 use Rattle.run_look.specs.Given.{limitsOnly}
-use Rattle.run_look.proofs.residuals.Statement.{statement}
-use Rattle.run_look.proofs.residuals.Tie as tie
+use Rattle.run_look.proofs.take_residuals.Statement.{statement}
+use Rattle.run_look.proofs.take_residuals.Tie as tie
 
 abbrev Inv-loop : tie.InvT-loop
-Inv-loop n m coefficient rhs amounts g₀ i₀ g i = (i ≤ m) × (g ≡ filled 16 (residual (limitsOnly n m coefficient rhs) (at amounts)) i)
+Inv-loop n m coefficient rhs amounts residuals₀ i₀ residuals i = (i ≤ m) × (residuals ≡ filled 16 (residual (limitsOnly n m coefficient rhs) (at amounts)) i)
 
 abbrev μ-loop : tie.MeasureT-loop
-μ-loop n m coefficient rhs amounts g₀ i₀ g i = m - i
+μ-loop n m coefficient rhs amounts residuals₀ i₀ residuals i = m - i
 
 dot-32-requires : tie.Need-dot-32-requires Inv-loop μ-loop
 dot-32-requires c κs =
@@ -29,7 +29,7 @@ dot-32-requires c κs =
     record { narrow = asked .narrow; inside = omega (arith, asked .narrow, asked .few); sum = asked .load (loop .loop .i) here }
 
 -- in a turn, with the load and b
-module _ (c : tie.After-g Inv-loop μ-loop) where
+module _ (c : tie.After-residuals Inv-loop μ-loop) where
   abbrev loop : tie.At-loop Inv-loop μ-loop
   loop = c .before .before .before .before
 
@@ -58,8 +58,8 @@ module _ (c : tie.After-g Inv-loop μ-loop) where
   residual-fits : SFits w32 (residual P x i)
   residual-fits = s .pre .whole i (omega arith)
 
-sub-g : tie.Need-sub-g Inv-loop μ-loop
-sub-g c = simp (toZ-ofZ (load-fits c), toZ-ofZ (rhs-fits c), residual-is c) (residual-fits c)
+sub-residuals : tie.Need-sub-residuals Inv-loop μ-loop
+sub-residuals c = simp (toZ-ofZ (load-fits c), toZ-ofZ (rhs-fits c), residual-is c) (residual-fits c)
 
 loop-again : tie.Need-loop-again Inv-loop μ-loop
 loop-again c = (
@@ -68,18 +68,18 @@ loop-again c = (
       (simp (toZ-ofZ (load-fits c), toZ-ofZ (rhs-fits c), residual-is c, toZ-ofZ (residual-fits c))),
 )
 
-pub residuals-spec : {M : Type 1} → statement M
-residuals-spec =
+pub take-residuals-spec : {M : Type 1} → statement M
+take-residuals-spec =
     tie.close
     (tie.spec
     Inv-loop
     μ-loop
-    (λ c. (omega arith, sym (fill-start 16 _)))
+    (λ c. (omega arith, c .pre .empty ∙ sym (fill-start 16 _)))
     (search needs)
     dot-32-requires
     (search needs)
     (search needs)
-    sub-g
+    sub-residuals
     (search needs)
     (search needs)
     (search needs)

@@ -16,15 +16,15 @@ use Rattle.sheet_figures.specs.Padded.{filled, fill-start, fill-next, fill-end}
 use Rattle.run_arithmetic.specs.Ends.{endBy}
 use Rattle.run_sums.specs.SumsFit.{SumFits}
 use Rattle.run_look.specs.Given.{withoutRhs}
-use Rattle.run_look.proofs.amounts.Statement.{statement}
-use Rattle.run_look.proofs.amounts.Tie as tie
+use Rattle.run_look.proofs.choose_amounts.Statement.{statement}
+use Rattle.run_look.proofs.choose_amounts.Tie as tie
 
 abbrev Inv-loop : tie.InvT-loop
-Inv-loop n m scale cost least most coefficient multipliers d x₀ j₀ x j =
-    (j ≤ n) × (x ≡ filled 32 (amount (withoutRhs n m scale cost least most coefficient) (at multipliers)) j)
+Inv-loop n m scale cost least most coefficient multipliers amounts₀ d j₀ amounts j =
+    (j ≤ n) × (amounts ≡ filled 32 (amount (withoutRhs n m scale cost least most coefficient) (at multipliers)) j)
 
 abbrev μ-loop : tie.MeasureT-loop
-μ-loop n m scale cost least most coefficient multipliers d x₀ j₀ x j = n - j
+μ-loop n m scale cost least most coefficient multipliers amounts₀ d j₀ amounts j = n - j
 
 -- in a turn, with the cost read
 module _ (c : tie.After-dot-column-64-arg Inv-loop μ-loop) where
@@ -118,14 +118,14 @@ module _ (c : tie.After-end-by Inv-loop μ-loop) where
 loop-again : tie.Need-loop-again Inv-loop μ-loop
 loop-again c = (omega arith, fill-next 32 _ (narrow (turn c)) (loop (turn c) .loop .inv .1) (amount-is c))
 
-pub amounts-spec : {M : Type 1} → statement M
-amounts-spec =
+pub choose-amounts-spec : {M : Type 1} → statement M
+choose-amounts-spec =
     tie.close
     (tie.spec
     Inv-loop
     μ-loop
     (search needs)
-    (λ c. (omega arith, sym (fill-start 32 _)))
+    (λ c. (omega arith, c .pre .empty ∙ sym (fill-start 32 _)))
     (search needs)
     (search needs)
     (λ c. widened w64 tt (cost-fits c))
