@@ -4,7 +4,6 @@ ghost use lib.IntN.{_+ℤ_, _-ℤ_, _*ℤ_};
 ghost use mir.Syntax.{w32, w64};
 ghost use mir.Val.{SFits};
 ghost use Rattle.rules.specs.Notation.{maxℤ};
-ghost use Rattle.run_arithmetic.specs.Ends.{endBy};
 ghost use Rattle.run_arithmetic.specs.Products.{ProductFits};
 
 // sum + x·y, in 32 bits.
@@ -52,11 +51,4 @@ pub fn larger(x: i64, y: i64) -> i64
     ensures { λ r. ⌜ r ≡ maxℤ x y ⌝ }
 {
     if x <= y { y } else { x }
-}
-
-// The end of the bounds that a weight chooses: the most amount where it is below 0, else the least.
-pub fn end_by(weight: i64, least: i16, most: i16) -> i16
-    ensures { λ r. ⌜ r ≡ endBy weight least most ⌝ }
-{
-    if weight < 0 { most } else { least }
 }

@@ -6,8 +6,8 @@ use lib.Signed.{ltZ}
 use Rattle.proof_integer.specs.Ring.{one-*ℤ}
 use Rattle.rules.specs.Problem.{Problem}
 use Rattle.proof_magnitudes.specs.CostRange.{cheapestEnd, greatestEnd}
-use Rattle.run_arithmetic.specs.Ends.{endBy, opposite-sign}
-use Rattle.run_costs.specs.Costs.{signedEnd}
+use Rattle.run_ends.specs.Ends.{endBy, opposite-sign}
+use Rattle.run_ends.specs.SignedEnds.{signedEnd}
 
 module _ (P : Problem) where
   pub cheapest-by-sign : signedEnd (pos 1) P ≡ cheapestEnd P

@@ -1,4 +1,4 @@
--- The problems that have the figures which a function is lent and no others; the ends that a cost's sign chooses; and what the functions ask.
+-- The problem that has the costs which a function is lent and no other figures; and what the functions ask.
 use mathlib.Core.List.{List, []}
 use Prim.Native.Nat.{ℕ, _≤_}
 use lib.IntN.{ℤ, pos, _*ℤ_}
@@ -8,20 +8,12 @@ use Rattle.proof_integer.specs.Range.{Bnd}
 use Rattle.rules.specs.Problem.{Problem, costOf}
 use Rattle.rules.specs.Run.{gapOf}
 use Rattle.sheet_figures.specs.Figures.{problemIn}
-use Rattle.run_arithmetic.specs.Ends.{endBy}
+use Rattle.run_ends.specs.SignedEnds.{signedEnd}
 use Rattle.run_sums.specs.SumsFit.{SumFits}
-
--- the materials: costs and bounds
-abbrev pub materialsOnly : (n D : ℕ) → (c l u : List ℤ) → Problem
-materialsOnly n D c l u = problemIn n 0 0 D c l u [] []
 
 -- the costs
 abbrev pub costsOnly : (n D : ℕ) → List ℤ → Problem
 costsOnly n D c = problemIn n 0 0 D c [] [] [] []
-
--- the end of the bounds of material j that its cost times a sign chooses: with 1 the cheapest, with −1 the greatest
-abbrev pub signedEnd : ℤ → Problem → ℕ → ℤ
-signedEnd sign P j = endBy (sign *ℤ P .cost j) (P .least j) (P .most j)
 
 -- the cost of amounts x, and D times it
 pub record CostFits (P : Problem) (x : ℕ → ℤ) : Type 0 where
@@ -30,12 +22,7 @@ pub record CostFits (P : Problem) (x : ℕ → ℤ) : Type 0 where
   pub sum : SumFits w32 (pos 0) (λ j. P .cost j *ℤ x j) (P .materials)
   pub scaled : SFits w64 (pos (P .scale) *ℤ costOf P x)
 
--- ends by a sign, which is 1 or −1
-pub record EndsFit (n : ℕ) (sign : ℤ) : Type 0 where
-  pub narrow : n ≤ 32
-  pub unit : Bnd sign 1
-
--- and the cost at them
+-- the cost at the ends by a sign, which is 1 or −1
 pub record SignedEndsFit (sign : ℤ) (P : Problem) : Type 0 where
   pub unit : Bnd sign 1
   pub cost : CostFits P (signedEnd sign P)

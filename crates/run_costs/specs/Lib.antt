@@ -1,5 +1,5 @@
 -- What the costs are of, and what working them out asks.
---   Costs   the problems that have the lent figures, ends by the sign of a cost, and that sums and products fit
+--   Costs   the problem that has the lent costs, and that sums and products fit
 --   OfRun   that they fit in the run of an accepted problem
 pub mod Costs
 pub mod OfRun

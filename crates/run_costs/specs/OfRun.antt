@@ -16,7 +16,8 @@ use Rattle.proof_magnitudes.specs.Magnitudes.{CostMagnitudes, amounts-bnd, cost
 use Rattle.proof_magnitudes.specs.RunMagnitudes.{run-magnitudes}
 use Rattle.sheet_figures.specs.declared.Figures.{Figures}
 use Rattle.sheet_figures.specs.Figures.{problemOf}
-use Rattle.run_costs.specs.Costs.{materialsOnly, costsOnly, CostFits, GapFits}
+use Rattle.run_ends.specs.SignedEnds.{materialsOnly}
+use Rattle.run_costs.specs.Costs.{costsOnly, CostFits, GapFits}
 
 -- the cost of amounts of at most 1,000
 pub cost-fits : {P : Problem} {k : ℕ} → Accepted P k → (x : ℕ → ℤ) → CostMagnitudes P x 1000 → CostFits P x

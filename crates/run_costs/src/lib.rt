@@ -1,15 +1,15 @@
 // Costs over the bounds and of sums: D times the cost of amounts, the greatest and the cheapest that the bounds allow, and the gap.
 ghost use mathlib.Core.Path.{_≡_};
 ghost use lib.IntN.{pos, _*ℤ_};
-ghost use Rattle.rules.specs.Notation.{tabulate, at};
+ghost use Rattle.rules.specs.Notation.{at};
 ghost use Rattle.rules.specs.Problem.{costOf};
 ghost use Rattle.rules.specs.Step.{greatestCost, cheapestCost};
 ghost use Rattle.rules.specs.Run.{gapOf};
 ghost use Rattle.proof_magnitudes.specs.CostRange.{cheapestEnd, greatestEnd};
-ghost use Rattle.sheet_figures.specs.Padded.{padded};
-ghost use Rattle.run_costs.specs.Costs.{costsOnly, materialsOnly, signedEnd, CostFits, EndsFit, SignedEndsFit, GapFits};
-use run_arithmetic::end_by;
+ghost use Rattle.run_ends.specs.SignedEnds.{materialsOnly, signedEnd};
+ghost use Rattle.run_costs.specs.Costs.{costsOnly, CostFits, SignedEndsFit, GapFits};
 use run_arithmetic::minus_64;
+use run_ends::choose_ends;
 use run_sums::dot_32;
 use run_sums::dot_column_64;
 
@@ -20,27 +20,6 @@ pub fn scaled_cost<'a>(n: usize, scale: usize, cost: &'a [i16; 32], amounts: &'a
 {
     let sum = dot_32(n, cost, 0, amounts);
     (scale as i64) * (sum as i64)
-}
-
-// The end of the bounds of each material that its cost chooses, or, where the sign is -1, the cost's opposite.
-fn ends<'a>(
-    n: usize,
-    sign: i64,
-    cost: &'a [i16; 32],
-    least: &'a [i16; 32],
-    most: &'a [i16; 32],
-) -> [i16; 32]
-    requires { ⌜ EndsFit n sign ⌝ }
-    ensures { λ r. ⌜ r ≡ padded 32 (tabulate n
-        (signedEnd sign (materialsOnly n 0 (now (cost .entry)) (now (least .entry)) (now (most .entry))))) ⌝ }
-{
-    let mut x: [i16; 32] = [0; 32];
-    let mut j: usize = 0;
-    while j < n {
-        x[j] = end_by(sign * (cost[j] as i64), least[j], most[j]);
-        j += 1;
-    }
-    x
 }
 
 // D times the cost at these ends.
@@ -57,7 +36,8 @@ fn value_at_ends<'a>(
         costOf (materialsOnly n scale (now (cost .entry)) (now (least .entry)) (now (most .entry)))
         (signedEnd sign (materialsOnly n scale (now (cost .entry)) (now (least .entry)) (now (most .entry)))) ⌝ }
 {
-    let x = ends(n, sign, cost, least, most);
+    let mut x: [i16; 32] = [0; 32];
+    choose_ends(n, sign, cost, least, most, &mut x);
     scaled_cost(n, scale, cost, &x)
 }
 

@@ -1,10 +1,8 @@
 // The run: k steps from the start, or refusals 9 and 10.
-ghost use mathlib.Core.Path.{_≡_};
-ghost use Rattle.rules.specs.Run.{stateAfter};
 ghost use Rattle.rules.specs.Answers.{stepRefusal};
 ghost use Rattle.proof_magnitudes.specs.Accepted.{Accepted};
 ghost use Rattle.sheet_figures.specs.Figures.{problemOf};
-ghost use Rattle.run_step.specs.States.{stateIn, AfterSteps};
+ghost use Rattle.run_step.specs.States.{AfterSteps};
 use rules::Verdict;
 use run_costs::cheapest_value;
 use run_costs::greatest_value;
@@ -12,30 +10,22 @@ use run_step::State;
 use run_step::Stepped;
 use sheet_figures::Figures;
 
-// The state before any step.
-fn start(f: Figures) -> State
-    requires { ⌜ Accepted (problemOf f) (f .steps) ⌝ }
-    ensures { λ r. ⌜ r ≡ stateIn (stateAfter (problemOf f) 0) ⌝ }
-{
-    State {
-        multipliers: [0; 16],
-        sums: [0; 32],
-        totals: [0; 16],
-        low: cheapest_value(f.materials, f.scale, &f.cost, &f.least, &f.most),
-    }
-}
-
-// k steps from multipliers of 0.
+// k steps from multipliers of 0, where low is D times the cheapest cost.
 pub fn run(f: Figures) -> Stepped
     requires { ⌜ Accepted (problemOf f) (f .steps) ⌝ }
     ensures { λ r. ⌜ AfterSteps (problemOf f) (f .steps) (stepRefusal (problemOf f) (f .steps)) r ⌝ }
 {
     let k = f.steps;
     let greatest = greatest_value(f.materials, f.scale, &f.cost, &f.least, &f.most);
-    let first = start(f);
+    let low = cheapest_value(f.materials, f.scale, &f.cost, &f.least, &f.most);
     let mut r = Stepped {
         stop: Verdict::Passed,
-        state: first,
+        state: State {
+            multipliers: [0; 16],
+            sums: [0; 32],
+            totals: [0; 16],
+            low: low,
+        },
     };
     let mut t: usize = 0;
     while t < k {

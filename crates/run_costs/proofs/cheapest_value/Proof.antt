@@ -8,7 +8,8 @@ use borrow.Author.Needs.{needs}
 use Rattle.proof_integer.specs.Range.{bnd-of}
 use Rattle.rules.specs.Problem.{Problem, costOf}
 use Rattle.rules.specs.Step.{cheapestCost}
-use Rattle.run_costs.specs.Costs.{CostFits, materialsOnly}
+use Rattle.run_ends.specs.SignedEnds.{materialsOnly}
+use Rattle.run_costs.specs.Costs.{CostFits}
 use Rattle.run_costs.proofs.Signs.{cheapest-by-sign}
 use Rattle.run_costs.proofs.cheapest_value.Statement.{statement}
 use Rattle.run_costs.proofs.cheapest_value.Tie as tie

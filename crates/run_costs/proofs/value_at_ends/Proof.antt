@@ -1,5 +1,6 @@
 -- The ends stand in the array, and their cost is taken.
-use mathlib.Core.Path.{_≡_, sym, ap, _∙_}
+use mathlib.Core.Path.{_≡_, refl, sym, ap, _∙_}
+use mathlib.Core.List.{List}
 use Prim.Native.Nat.{ℕ, _<_}
 use lib.IntN.{ℤ, pos, _*ℤ_}
 use mir.Syntax.{w64}
@@ -10,17 +11,19 @@ use Rattle.proof_integer.specs.Vector.{length-tabulate, at-tabulate}
 use Rattle.rules.specs.Notation.{at}
 use Rattle.rules.specs.Problem.{Problem, costOf}
 use Rattle.sheet_figures.specs.Padded.{at-padded}
-use Rattle.run_costs.specs.Costs.{materialsOnly, signedEnd}
+use Rattle.run_ends.specs.SignedEnds.{materialsOnly, signedEnd}
 use Rattle.run_costs.proofs.Alike.{same-cost, fits-alike}
 use Rattle.run_costs.proofs.value_at_ends.Statement.{statement}
 use Rattle.run_costs.proofs.value_at_ends.Tie as tie
 
-ends-requires : tie.Need-ends-requires
-ends-requires c κs = rw (toZ-ofZ (c .fits .sign)) (record { narrow = c .pre .cost .narrow; unit = c .pre .unit })
+choose-ends-requires : tie.Need-choose-ends-requires
+choose-ends-requires c κs =
+    let s = c .before in
+    rw (toZ-ofZ (s .fits .sign)) (record { empty = refl; narrow = s .pre .cost .narrow; unit = s .pre .unit })
 
-module _ (c : tie.After-ends) where
+module _ (c : tie.After-choose-ends) where
   abbrev s : tie.Start
-  s = c .before
+  s = c .before .before
 
   abbrev P : Problem
   P = materialsOnly (s .args .n) (s .args .scale) (s .args .cost .now) (s .args .least .now) (s .args .most .now)
@@ -28,10 +31,13 @@ module _ (c : tie.After-ends) where
   abbrev end : ℕ → ℤ
   end = signedEnd (s .args .sign) P
 
-  ends-are : (j : ℕ) → j < P .materials → end j ≡ at (c .ends .result) j
+  abbrev chosen : List ℤ
+  chosen = c .choose-ends .last .1 .1 .1 .1 .1 .0
+
+  ends-are : (j : ℕ) → j < P .materials → end j ≡ at chosen j
   ends-are j l =
       sym
-      ((λ k. at ((simp (toZ-ofZ (s .fits .sign)) at (c .ends .ensures)) k) j)
+      ((λ k. at ((simp (toZ-ofZ (s .fits .sign)) at (c .choose-ends .ensures)) k) j)
       ∙ ap (λ (f : ℕ → ℤ). f j) (at-padded 32 _ (rw length-tabulate (s .pre .cost .narrow)))
       ∙ at-tabulate (P .materials) end j l)
 
@@ -50,4 +56,4 @@ returns c =
     toZ-ofZ fits ∙ c .scaled-cost .ensures ∙ ap (λ z. pos (s a .args .scale) *ℤ z) (sym (same-cost (P a) (ends-are a)))
 
 pub value-at-ends-spec : {M : Type 1} → statement M
-value-at-ends-spec = tie.close (tie.spec ends-requires scaled-cost-requires returns)
+value-at-ends-spec = tie.close (tie.spec choose-ends-requires scaled-cost-requires returns)

@@ -13,7 +13,7 @@ use Rattle.rules.specs.Notation.{sumTo, at}
 use Rattle.rules.specs.Problem.{Problem}
 use Rattle.rules.specs.Step.{reducedCost, amount}
 use Rattle.sheet_figures.specs.Padded.{filled, fill-start, fill-next, fill-end}
-use Rattle.run_arithmetic.specs.Ends.{endBy}
+use Rattle.run_ends.specs.Ends.{endBy}
 use Rattle.run_sums.specs.SumsFit.{SumFits}
 use Rattle.run_look.specs.Given.{withoutRhs}
 use Rattle.run_look.proofs.choose_amounts.Statement.{statement}

@@ -1,5 +1,5 @@
 -- Before step t, no step was refused, and what the last one handed back is the state after t steps.
-use mathlib.Core.Path.{_≡_, refl, _∙_}
+use mathlib.Core.Path.{_≡_, refl, sym, _∙_}
 use Prim.Native.Nat.{_-_, zero-le}
 use native.Mathlib.Omega.{arith}
 use mir.Syntax.{w64}
@@ -7,56 +7,87 @@ use mir.Val.{SFits}
 use mir.Facts.{toZ-ofZ}
 use borrow.Author.Needs.{needs}
 use Rattle.rules.specs.Problem.{costOf}
-use Rattle.rules.specs.Step.{greatestCost}
+use Rattle.rules.specs.Step.{greatestCost, cheapestCost}
+use Rattle.rules.specs.Run.{startingMultiplier, start, stateAfter}
 use Rattle.rules.specs.Answers.{stepRefusal}
 use Rattle.proof_laws.specs.FirstPlace.{first-start}
+use Rattle.proof_magnitudes.specs.Opening.{opening-low}
+use Rattle.sheet_figures.specs.Padded.{padded-zero}
 use Rattle.sheet_figures.specs.Figures.{problemOf}
 use Rattle.rules.specs.declared.Verdict.the-variants.{Passed}
 use Rattle.run_step.specs.Reached.{Reached}
-use Rattle.run_costs.specs.OfRun.{greatest-fits}
+use Rattle.run_costs.specs.OfRun.{greatest-fits, cheapest-fits}
+use Rattle.run_step.specs.States.{stateIn}
 use Rattle.run_step.specs.Stops.{hands-state}
 use Rattle.run_steps.proofs.Turns.{hands-on, still-going, next-state}
 use Rattle.run_steps.proofs.run.Statement.{statement}
 use Rattle.run_steps.proofs.run.Tie as tie
 
 abbrev Inv-loop : tie.InvT-loop
-Inv-loop f k greatest r₀ t₀ r t = (r .stop ≡ Passed) × Reached f t (r .state)
+Inv-loop f k greatest low r₀ t₀ r t = (r .stop ≡ Passed) × Reached f t (r .state)
 
 abbrev μ-loop : tie.MeasureT-loop
-μ-loop f k greatest r₀ t₀ r t = k - t
+μ-loop f k greatest low r₀ t₀ r t = k - t
 
 greatest-value-requires : tie.Need-greatest-value-requires Inv-loop μ-loop
 greatest-value-requires c κs =
     let s = c .before .before .before .before in
     greatest-fits (s .args .t1) (s .pre)
 
-start-requires : tie.Need-start-requires Inv-loop μ-loop
-start-requires c κs = c .before .before .before .before .before .pre
+cheapest-value-requires : tie.Need-cheapest-value-requires Inv-loop μ-loop
+cheapest-value-requires c κs =
+    let s = c .before .before .before .before .before .before .before .before .before in
+    cheapest-fits (s .args .t1) (s .pre)
 
+-- from the cheapest cost back to the greatest, and to the figures
+module _ (c : tie.After-cheapest-value Inv-loop μ-loop) where
+  abbrev found : tie.After-greatest-value Inv-loop μ-loop
+  found = c .before .before .before .before .before
+
+  abbrev s : tie.Start Inv-loop μ-loop
+  s = found .before .before .before .before .before
+
+-- every multiplier and total is 0, and low is D times the cheapest cost, which is the dual value at multipliers of 0
 loop-holds : tie.Need-loop-holds Inv-loop μ-loop
-unfolding stepRefusal
+unfolding stepRefusal stateIn stateAfter start startingMultiplier cheapestCost costOf
 loop-holds c =
-    (refl, record { accepted = c .before .before .before .before .before .before .pre; few = zero-le; going = first-start _; state = c .start .ensures })
+    let f = s c .args .t1 in
+    let fits : SFits w64 (c .cheapest-value .result) = search needs in
+    let low = toZ-ofZ fits ∙ c .cheapest-value .ensures ∙ sym (opening-low (problemOf f) (s c .pre .scale-some)) in
+    (
+      refl,
+      record {
+        accepted = s c .pre;
+        few = zero-le;
+        going = first-start _;
+        state = λ k. record {
+          multipliers = sym (padded-zero 16 (f .limits)) k;
+          sums = sym (padded-zero 32 (f .materials)) k;
+          totals = sym (padded-zero 16 (f .limits)) k;
+          low = low k;
+        };
+      },
+    )
 
 step-requires : tie.Need-step-requires Inv-loop μ-loop
 unfolding greatestCost costOf
 step-requires c κs =
-    let found = c .before .before .before .before in
-    let fits : SFits w64 (found .greatest-value .result) = search needs in
-    record { reached = c .before .before .loop .inv .1; more = omega arith; greatest-is = toZ-ofZ fits ∙ found .greatest-value .ensures }
+    let greatest = found (c .before .before .before) .greatest-value in
+    let fits : SFits w64 (greatest .result) = search needs in
+    record { reached = c .before .before .loop .inv .1; more = omega arith; greatest-is = toZ-ofZ fits ∙ greatest .ensures }
 
 returns : tie.Need-returns Inv-loop μ-loop
 returns c =
     let stepped = c .before .before in
     let loop = stepped .before .before .before in
-    let f = loop .before .before .before .before .before .before .before .args .t1 in
+    let f = s (loop .before) .args .t1 in
     hands-on (problemOf f) (loop .loop .inv .1 .going) (stepped .step .ensures) (f .steps) (omega arith) (c .enum-told2 .given .1)
 
 loop-again : tie.Need-loop-again Inv-loop μ-loop
 loop-again c =
     let stepped = c .before .before in
     let reached = stepped .before .before .before .loop .inv .1 in
-    let P = problemOf (stepped .before .before .before .before .before .before .before .before .before .before .args .t1) in
+    let P = problemOf (s (stepped .before .before .before .before) .args .t1) in
     let going = c .enum-told .given .1 in (
       going,
       record {
@@ -70,7 +101,7 @@ loop-again c =
 returns-2 : tie.Need-returns-2 Inv-loop μ-loop
 returns-2 c =
     let loop = c .before .loop in
-    let f = c .before .before .before .before .before .before .before .before .args .t1 in
+    let f = s (c .before .before) .args .t1 in
     let all : loop .t ≡ f .steps = omega (arith, loop .inv .1 .few) in
     hands-state (problemOf f) (f .steps) (loop .inv .0) (rw all at (loop .inv .1 .going)) (rw all at (loop .inv .1 .state))
 
@@ -81,7 +112,7 @@ run-spec =
     Inv-loop
     μ-loop
     greatest-value-requires
-    start-requires
+    cheapest-value-requires
     loop-holds
     step-requires
     (search needs)

@@ -4,9 +4,9 @@ use mathlib.Core.Bool.{true, false}
 use lib.IntN.{pos}
 use lib.Signed.{ltZ}
 use mir.Facts.{toZ-ofZ}
-use Rattle.run_arithmetic.specs.Ends.{endBy}
-use Rattle.run_arithmetic.proofs.end_by.Statement.{statement}
-use Rattle.run_arithmetic.proofs.end_by.Tie as tie
+use Rattle.run_ends.specs.Ends.{endBy}
+use Rattle.run_ends.proofs.end_by.Statement.{statement}
+use Rattle.run_ends.proofs.end_by.Tie as tie
 
 returns : tie.Need-returns
 unfolding endBy

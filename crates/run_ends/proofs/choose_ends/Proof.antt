@@ -10,15 +10,15 @@ use borrow.Author.Needs.{needs}
 use Rattle.proof_integer.specs.Range.{_b*_, bnd-sfits, sfits-bnd, widened, widened-is}
 use Rattle.rules.specs.Problem.{Problem}
 use Rattle.sheet_figures.specs.Padded.{filled, fill-start, fill-next, fill-end}
-use Rattle.run_costs.specs.Costs.{materialsOnly, signedEnd}
-use Rattle.run_costs.proofs.ends.Statement.{statement}
-use Rattle.run_costs.proofs.ends.Tie as tie
+use Rattle.run_ends.specs.SignedEnds.{materialsOnly, signedEnd}
+use Rattle.run_ends.proofs.choose_ends.Statement.{statement}
+use Rattle.run_ends.proofs.choose_ends.Tie as tie
 
 abbrev Inv-loop : tie.InvT-loop
-Inv-loop n sign cost least most x₀ j₀ x j = (j ≤ n) × (x ≡ filled 32 (signedEnd (toZ w64 sign) (materialsOnly n 0 cost least most)) j)
+Inv-loop n sign cost least most ends₀ j₀ ends j = (j ≤ n) × (ends ≡ filled 32 (signedEnd (toZ w64 sign) (materialsOnly n 0 cost least most)) j)
 
 abbrev μ-loop : tie.MeasureT-loop
-μ-loop n sign cost least most x₀ j₀ x j = n - j
+μ-loop n sign cost least most ends₀ j₀ ends j = n - j
 
 -- in a turn, with the cost read
 module _ (c : tie.After-end-by-arg Inv-loop μ-loop) where
@@ -69,13 +69,13 @@ returns c =
     fill-end 32 _ (omega arith) (c .before .loop .inv .1)
     ∙ (λ k. filled 32 (signedEnd (toZ-ofZ (s .fits .sign) k) (materialsOnly (s .args .n) 0 (s .args .cost .now) (s .args .least .now) (s .args .most .now))) (s .args .n))
 
-pub ends-spec : {M : Type 1} → statement M
-ends-spec =
+pub choose-ends-spec : {M : Type 1} → statement M
+choose-ends-spec =
     tie.close
     (tie.spec
     Inv-loop
     μ-loop
-    (λ c. (omega arith, sym (fill-start 32 _)))
+    (λ c. (omega arith, c .pre .empty ∙ sym (fill-start 32 _)))
     (search needs)
     (search needs)
     (λ c. widened w64 tt (cost-fits c))
