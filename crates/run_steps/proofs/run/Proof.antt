@@ -53,8 +53,7 @@ unfolding stepRefusal stateIn stateAfter start startingMultiplier cheapestCost c
 loop-holds c =
     let f = s c .args .t1 in
     let fits : SFits w64 (c .cheapest-value .result) = search needs in
-    let low = toZ-ofZ fits ∙ c .cheapest-value .ensures ∙ sym (opening-low (problemOf f) (s c .pre .scale-some)) in
-    (
+    let low = toZ-ofZ fits ∙ c .cheapest-value .ensures ∙ sym (opening-low (problemOf f) (s c .pre .scale-some)) in (
       refl,
       record {
         accepted = s c .pre;
