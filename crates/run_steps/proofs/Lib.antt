@@ -1,3 +1,3 @@
 -- What the proofs share.
---   Turns   one turn of the run
-pub mod Turns
+--   OneStep   one turn of the run
+pub mod OneStep

@@ -1,3 +1,3 @@
 -- What the proofs share.
---   Rows   what stands in a row of materials, in the row of a limit, and above
-pub mod Rows
+--   RowKinds   what stands in a row of materials, in the row of a limit, and above
+pub mod RowKinds

@@ -7,12 +7,12 @@ use lib.ListN.{length, drop, drop-of-length-le}
 use lib.Seq.{drop-cons}
 use borrow.Author.Needs.{needs}
 use Rattle.out_text.specs.Growing.{length-kept}
-use Rattle.out_text.proofs.Left.{Left, left-next, left-none}
+use Rattle.out_text.proofs.StillToPut.{StillToPut, left-next, left-none}
 use Rattle.out_text.proofs.put_bytes.Statement.{statement}
 use Rattle.out_text.proofs.put_bytes.Tie as tie
 
 abbrev Inv-loop : tie.InvT-loop
-Inv-loop d₀ at bytes end₀ i₀ d end i = (i ≤ length bytes) × Left bytes d₀ at (drop i bytes) d end
+Inv-loop d₀ at bytes end₀ i₀ d end i = (i ≤ length bytes) × StillToPut bytes d₀ at (drop i bytes) d end
 
 abbrev μ-loop : tie.MeasureT-loop
 μ-loop d₀ at bytes end₀ i₀ d end i = length bytes - i

@@ -9,12 +9,12 @@ use Rattle.rules.specs.Listing.{decimal}
 use Rattle.out_text.specs.Growing.{length-kept}
 use Rattle.out_text.specs.DecimalLength.{length-decimal-pos}
 use Rattle.out_text.proofs.Digits.{cut, cut-decimal}
-use Rattle.out_text.proofs.Left.{Left, left-next, left-none}
+use Rattle.out_text.proofs.StillToPut.{StillToPut, left-next, left-none}
 use Rattle.out_text.proofs.put_number.Statement.{statement}
 use Rattle.out_text.proofs.put_number.Tie as tie
 
 abbrev Inv-loop : tie.InvT-loop
-Inv-loop d₀ at v end₀ left₀ d end left = (left ≤ 20) × Left (decimal (pos v)) d₀ at (cut left v) d end
+Inv-loop d₀ at v end₀ left₀ d end left = (left ≤ 20) × StillToPut (decimal (pos v)) d₀ at (cut left v) d end
 
 abbrev μ-loop : tie.MeasureT-loop
 μ-loop d₀ at v end₀ left₀ d end left = left

@@ -19,7 +19,7 @@ use Rattle.run_step.specs.Reached.{Reached}
 use Rattle.run_costs.specs.OfRun.{greatest-fits, cheapest-fits}
 use Rattle.run_step.specs.States.{stateIn}
 use Rattle.run_step.specs.Stops.{hands-state}
-use Rattle.run_steps.proofs.Turns.{hands-on, still-going, next-state}
+use Rattle.run_steps.proofs.OneStep.{hands-on, still-going, next-state}
 use Rattle.run_steps.proofs.run.Statement.{statement}
 use Rattle.run_steps.proofs.run.Tie as tie
 

@@ -4,7 +4,7 @@ use native.Mathlib.Omega.{arith}
 use borrow.Author.Needs.{needs}
 use Rattle.rules.specs.Ranges.{kindAt}
 use Rattle.sheet_kinds.specs.Meaning.{meaningOf}
-use Rattle.sheet_kinds.proofs.Rows.{material-row, limit-row, no-row}
+use Rattle.sheet_kinds.proofs.RowKinds.{material-row, limit-row, no-row}
 use Rattle.sheet_kinds.proofs.meaning_at.Statement.{statement}
 use Rattle.sheet_kinds.proofs.meaning_at.Tie as tie
 

@@ -27,7 +27,7 @@ use Rattle.run_totals.specs.Moves.{limitsMoved, MoveFits, places-all}
 use Rattle.run_totals.specs.Totals.{TotalsFit}
 use Rattle.run_totals.specs.Changed.{changed-end}
 use Rattle.run_step.specs.States.{stateIn}
-use Rattle.run_step.specs.Reads.{reads, multipliers-read, sums-read, totals-read, multipliers-changed, sums-changed, totals-changed}
+use Rattle.run_step.specs.Reads.{array-reads, multipliers-read, sums-read, totals-read, multipliers-changed, sums-changed, totals-changed}
 use Rattle.run_step.proofs.Fitting.{lookedAt, same-look, look-fits, move-fits, sums-fit, totals-fit}
 use Rattle.run_step.specs.Stops.{refused-9, refused-10, not-refused, hands-stop, hands-state}
 use Rattle.run_step.proofs.State.step.Statement.{statement}
@@ -92,12 +92,12 @@ module _ (c : tie.After-look-at) where
 
   x-reads : at x ≡ amounts (P s-q) (t s-q)
   x-reads =
-      reads 32 _ (c .look-at .ensures .amounts-are ∙ (λ k. padded 32 (q-is k .amounts)))
+      array-reads 32 _ (c .look-at .ensures .amounts-are ∙ (λ k. padded 32 (q-is k .amounts)))
       (amounts-length (P s-q) (t s-q)) (accepted s-q .materials-few)
 
   g-reads : at g ≡ residuals (P s-q) (t s-q)
   g-reads =
-      reads 16 _ (c .look-at .ensures .residuals-are ∙ (λ k. padded 16 (q-is k .residuals)))
+      array-reads 16 _ (c .look-at .ensures .residuals-are ∙ (λ k. padded 16 (q-is k .residuals)))
       (residuals-length (P s-q) (t s-q)) (accepted s-q .limits-few)
 
   value-is : toZ w64 (ofZ w64 (c .look-at .result)) ≡ lookAfter (P s-q) (t s-q) .dualValue
