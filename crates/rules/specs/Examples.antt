@@ -16,7 +16,7 @@ use Rattle.rules.specs.declared.Cause.the-variants.{Short, Dimensions, L
 use Rattle.rules.specs.Bytes.{signedAt, unsignedBytes}
 use Rattle.rules.specs.Sheet.{sheetLength}
 use Rattle.rules.specs.Ranges.{ranges, indexOf, rangeOf}
-use Rattle.rules.specs.Record.{recordLength}
+use Rattle.rules.specs.Record.{recordLength, longestRecord}
 use Rattle.rules.specs.Refusals.{layoutRefusal}
 use Rattle.rules.specs.Listing.{text}
 use Rattle.rules.specs.Rows.{_∶_, sizes, encode, hex, Row, Holds, AllHold}
@@ -157,7 +157,7 @@ unfolding recordLength
 record-length n m = omega arith
 
 -- the longest record has 342 bytes
-pub longest-record : recordLength 32 16 ≡ 342
+pub longest-record : longestRecord ≡ 342
 unfolding recordLength
 longest-record = refl
 
