@@ -15,7 +15,7 @@ use Rattle.rules.specs.declared.Cause.{Cause}
 use Rattle.rules.specs.declared.Cause.the-variants.{Short, Dimensions, Length, Parameters, Key, Value, Bounds, Buffer, Infeasible, Diverged}
 use Rattle.rules.specs.Bytes.{signedAt, unsignedBytes}
 use Rattle.rules.specs.Sheet.{sheetLength}
-use Rattle.rules.specs.Ranges.{ranges, indexOf, rangeOf}
+use Rattle.rules.specs.Ranges.{ranges, indexOf, rangeOf, mostEntries}
 use Rattle.rules.specs.Record.{recordLength, longestRecord}
 use Rattle.rules.specs.Refusals.{layoutRefusal}
 use Rattle.rules.specs.Listing.{text}
@@ -139,7 +139,7 @@ unfolding Holds
 largest-sizes = refl
 
 -- the longest sheet has 3,756 bytes
-pub longest : sheetLength (32 * (16 + 3) + 16) ≡ 3756
+pub longest : sheetLength (mostEntries 32 16) ≡ 3756
 longest = refl
 
 -- every kind of figure stands in the table of ranges, so that nothing is read past its end, and the row there is its own
