@@ -3,9 +3,9 @@
 ghost use Prim.Native.Nat.{_≤_};
 ghost use mathlib.Core.Path.{_≡_};
 ghost use lib.ListN.{length};
+ghost use Rattle.rules.specs.Record.{longestRecord};
 ghost use Rattle.rules.specs.Answers.{outcome};
 ghost use Rattle.rules.specs.Listing.{listing, Listed};
-ghost use Rattle.out_layout.specs.RecordSizes.{longestRecord};
 ghost use Rattle.batchplan_lib.specs.Called.{numbersOf, Called};
 use out_layout::LONGEST;
 use out_listing::write_listing;

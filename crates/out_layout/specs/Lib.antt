@@ -1,3 +1,3 @@
 -- The places of a record.
---   RecordSizes   what its functions ask, and the length of the longest record
+--   RecordSizes   what its functions ask
 pub mod RecordSizes

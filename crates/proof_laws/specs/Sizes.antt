@@ -10,7 +10,7 @@ use mir.Facts.{leb-yes}
 use Rattle.rules.specs.Ranges.{between, mostEntries, dimensionsInRange}
 
 -- where n and m lie in their ranges, few entries are allowed
-pub few-entries : {n m : ℕ} → n ≤ 32 → m ≤ 16 → mostEntries n m ≤ 624
+pub few-entries : {n m : ℕ} → n ≤ 32 → m ≤ 16 → mostEntries n m ≤ mostEntries 32 16
 few-entries {n} {m} narrow few =
     let width : m + 3 ≤ 19 = omega arith in
     let product : n * (m + 3) ≤ 32 * 19 = mul-le-mul narrow width in
@@ -20,7 +20,7 @@ pub record SizesInRange (n m e : ℕ) : Type 0 where
   pub some-material : 1 ≤ n
   pub narrow : n ≤ 32
   pub few : m ≤ 16
-  pub entries : e ≤ 624
+  pub entries : e ≤ mostEntries 32 16
 
 pub dimensions : (n m e : ℕ) → dimensionsInRange n m e ≡ true → SizesInRange n m e
 unfolding dimensionsInRange between

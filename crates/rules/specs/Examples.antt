@@ -4,18 +4,19 @@ use Prim.Native.String.{String}
 use mathlib.Core.Path.{_≡_, refl}
 use mathlib.Core.List.{List, [], _∷_, _++_, map}
 use mathlib.Core.Option.{none}
-use lib.ListN.{replicate}
+use lib.ListN.{getD, replicate}
 use lib.IntN.{pos}
 use native.Mathlib.Omega.{arith}
 use Rattle.rules.specs.Notation.{neg}
 use Rattle.rules.specs.declared.Answer.the-variants.{Plan, Refused}
 use Rattle.rules.specs.declared.Kind.{Kind}
+use Rattle.rules.specs.declared.Range.{Range}
 use Rattle.rules.specs.declared.Cause.{Cause}
 use Rattle.rules.specs.declared.Cause.the-variants.{Short, Dimensions, Length, Parameters, Key, Value, Bounds, Buffer, Infeasible, Diverged}
 use Rattle.rules.specs.Bytes.{signedAt, unsignedBytes}
 use Rattle.rules.specs.Sheet.{sheetLength}
-use Rattle.rules.specs.Ranges.{ranges, indexOf, rangeOf}
-use Rattle.rules.specs.Record.{recordLength}
+use Rattle.rules.specs.Ranges.{ranges, indexOf, rangeOf, mostEntries}
+use Rattle.rules.specs.Record.{recordLength, longestRecord}
 use Rattle.rules.specs.Refusals.{layoutRefusal}
 use Rattle.rules.specs.Listing.{text}
 use Rattle.rules.specs.Rows.{_∶_, sizes, encode, hex, Row, Holds, AllHold}
@@ -138,17 +139,17 @@ unfolding Holds
 largest-sizes = refl
 
 -- the longest sheet has 3,756 bytes
-pub longest : sheetLength (32 * (16 + 3) + 16) ≡ 3756
+pub longest : sheetLength (mostEntries 32 16) ≡ 3756
 longest = refl
 
--- every kind of figure finds its own row in the table of ranges
-pub kinds-found : (kind : Kind) → rangeOf kind .kind ≡ kind
+-- every kind of figure stands in the table of ranges, so that nothing is read past its end, and the row there is its own
+pub kinds-found : (kind : Kind) (past : Range) → (getD ranges (indexOf kind) past ≡ rangeOf kind) × (rangeOf kind .kind ≡ kind)
 unfolding ranges indexOf rangeOf
-kinds-found Kind.Cost = refl
-kinds-found Kind.Least = refl
-kinds-found Kind.Most = refl
-kinds-found Kind.Coefficient = refl
-kinds-found Kind.Rhs = refl
+kinds-found Kind.Cost past = (refl, refl)
+kinds-found Kind.Least past = (refl, refl)
+kinds-found Kind.Most past = (refl, refl)
+kinds-found Kind.Coefficient past = (refl, refl)
+kinds-found Kind.Rhs past = (refl, refl)
 
 -- the length of a record: 22 bytes, 4 for each material, and 12 for each limit
 pub record-length : (n m : ℕ) → recordLength n m ≡ 22 + 4 * n + 12 * m
@@ -156,7 +157,7 @@ unfolding recordLength
 record-length n m = omega arith
 
 -- the longest record has 342 bytes
-pub longest-record : recordLength 32 16 ≡ 342
+pub longest-record : longestRecord ≡ 342
 unfolding recordLength
 longest-record = refl
 

@@ -1,6 +1,6 @@
 -- Points held against the statements of Problem and Margins, by computing with the definitions and with no theorem:
--- points that are feasible, points that miss it by one unit in one clause, what each claim of demand 3 says in numbers,
--- and claims that a point refutes. That the claims hold is proved in the crate `proof_margins`.
+-- points that are feasible, points that miss it by one unit in one clause, what each claim of demand 3 says in numbers of any
+-- low and gap, claims that a point refutes, and claims that hold. That all hold is proved in the crate `proof_margins`.
 use mathlib.Core.Path.{_≡_, refl}
 use mathlib.Core.List.{List, [], _∷_}
 use Prim.Native.Nat.{ℕ, zero, suc, _<_}
@@ -12,6 +12,7 @@ use Rattle.rules.specs.Notation.{neg, sumTo, at}
 use Rattle.rules.specs.Problem.{Problem, Feasible, NoneFeasible}
 use Rattle.rules.specs.Sheet.{sheetOf, problem}
 use Rattle.rules.specs.Run.{lookAfter, planAfter}
+use Rattle.rules.specs.Refusals.{Numbered}
 use Rattle.rules.specs.Answers.{plan, refused, answer}
 use Rattle.rules.specs.Margins.{square, PlanMargins, Margins}
 use Rattle.rules.specs.Rows.{_∶_, encode, Holds}
@@ -110,20 +111,22 @@ pub load-over-limit : Feasible P₁ (pos 2) (two (pos 3) (pos 17)) → ⊥
 unfolding Holds
 load-over-limit f = f .within 0 (lit< tt) .le
 
--- ---- C1, with low 104 and gap −16: what the margins say at the two recipes
-pub margins-of-plan : Margins (C1 .sheet) (plan (pos 104) (neg 16)) → PlanMargins P₁ 4 (pos 104) (neg 16)
+-- ---- C1, whose low is 104 and whose gap is −16: what the margins of a plan with any low and gap say at the two recipes
+pub margins-of-plan : (low gap : ℤ) → Margins (C1 .sheet) (plan low gap) → PlanMargins P₁ 4 low gap
 unfolding Holds Margins
-margins-of-plan claim = claim
+margins-of-plan low gap claim = claim
 
--- 104 ≤ 8·13, and 2·104 ≤ 8·27
-pub lower-says : PlanMargins P₁ 4 (pos 104) (neg 16) → (pos 104 ≤ℤ pos 104) × (pos 208 ≤ℤ pos 216)
+-- of every low: 1·low ≤ 8·13, and 2·low ≤ 8·27. The low of C1 meets the first with equality
+pub lower-says : (low gap : ℤ) → PlanMargins P₁ 4 low gap
+    → ((pos 1 *ℤ low) ≤ℤ pos 104) × ((pos 2 *ℤ low) ≤ℤ pos 216)
 unfolding Holds
-lower-says claim = (claim .lower (pos 1) recipe recipe-feasible, claim .lower (pos 2) halves halves-feasible)
+lower-says low gap claim = (claim .lower (pos 1) recipe recipe-feasible, claim .lower (pos 2) halves halves-feasible)
 
--- 8·50 − 4·8·13 ≤ −16, and 2·8·50 − 4·8·27 ≤ 2·(−16)
-pub excess-says : PlanMargins P₁ 4 (pos 104) (neg 16) → (neg 16 ≤ℤ neg 16) × (neg 64 ≤ℤ neg 32)
+-- of every gap: 1·8·50 − 4·8·13 ≤ 1·gap, and 2·8·50 − 4·8·27 ≤ 2·gap. The gap of C1 meets the first with equality
+pub excess-says : (low gap : ℤ) → PlanMargins P₁ 4 low gap
+    → (neg 16 ≤ℤ (pos 1 *ℤ gap)) × (neg 64 ≤ℤ (pos 2 *ℤ gap))
 unfolding Holds
-excess-says claim = (claim .excess (pos 1) recipe recipe-feasible, claim .excess (pos 2) halves halves-feasible)
+excess-says low gap claim = (claim .excess (pos 1) recipe recipe-feasible, claim .excess (pos 2) halves halves-feasible)
 
 -- the recipe (1, 10) costs 13, so that a low of 105 is refuted by it
 pub low-105 : (gap : ℤ) → PlanMargins P₁ 4 (pos 105) gap → ⊥
@@ -135,13 +138,39 @@ pub gap-17 : (low : ℤ) → PlanMargins P₁ 4 low (neg 17) → ⊥
 unfolding Holds
 gap-17 low claim = claim .excess (pos 1) recipe recipe-feasible .le
 
--- ---- C3: after refusal 9, and after no other, the margins say that there is no feasible point
-pub margins-of-no-blend : Margins (C3 .sheet) (refused (record { number = 9; place = 1 }))
-    → NoneFeasible (fromSheet (C3 .sheet))
-unfolding Margins
-margins-of-no-blend claim = claim refl
+-- ---- C8 with D = 3. Its cost is negative, so that here a claim without D, or with one step for all, would say less
+abbrev pub P₃ : Problem
+P₃ = fromSheet (encode 1 0 1 3 2 (0 ∶ neg 2 ∷ 128 ∶ pos 3 ∷ []))
 
--- with a most amount of 5, in place of 1, it is planned, and has one: 5
+-- 6/2 of the material
+pub negative-feasible : Feasible P₃ (pos 2) (one (pos 6))
+unfolding Holds
+negative-feasible = record {
+  divisor = ltZ-yes tt;
+  above = below-one _ (leZ-yes tt);
+  below = below-one _ (leZ-yes tt);
+  within = λ i l. absurd (not-suc-le-zero l);
+}
+
+-- of every low and gap: 2·low ≤ 3·(−12), and 2·3·(−12) − 2·3·(−12) ≤ 2·gap
+pub negative-says : (low gap : ℤ) → PlanMargins P₃ 2 low gap
+    → ((pos 2 *ℤ low) ≤ℤ neg 36) × (pos 0 ≤ℤ (pos 2 *ℤ gap))
+unfolding Holds
+negative-says low gap claim =
+    (claim .lower (pos 2) (one (pos 6)) negative-feasible, claim .excess (pos 2) (one (pos 6)) negative-feasible)
+
+-- ---- of every sheet: after refusal 9, at any place, the margins say that there is no feasible point ..
+pub margins-of-no-blend : (s : List ℕ) (place : ℕ) → Margins s (refused (record { number = 9; place = place }))
+    → NoneFeasible (fromSheet s)
+unfolding Margins
+margins-of-no-blend s place claim = claim refl
+
+-- .. and after any other nothing, so that they hold
+pub margins-of-others : (s : List ℕ) (r : Numbered) → (r .number ≡ 9 → ⊥) → Margins s (refused r)
+unfolding Margins
+margins-of-others s r other nine = absurd (other nine)
+
+-- C3 with a most amount of 5, in place of 1, is planned, and has a feasible point: 5
 abbrev C3-with-5 : List ℕ
 C3-with-5 = encode 1 1 1 1 2 (0 ∶ pos 1 ∷ 128 ∶ pos 5 ∷ 192 ∶ neg 1 ∷ 193 ∶ neg 5 ∷ [])
 
@@ -174,13 +203,23 @@ module _ (P : Problem) (k : ℕ) where
   squares-right =
       square (pos (P .numerator)) *ℤ sumTo k (λ t. sumTo (P .limits) (λ i. square (at (lookAfter P t .residuals) i)))
 
+-- of every problem with a limit, the residual claim says this of its two sides
+pub residual-says : (P : Problem) (k : ℕ) (low gap : ℤ) → 0 < P .limits → PlanMargins P k low gap
+    → residual-left P k ≤ℤ residual-right P k
+residual-says P k low gap some claim = claim .residualTotals 0 some
+
 -- ---- C2, with gap 0: 12 ≤ 12, and 0 + 12² ≤ 12²
 abbrev pub P₂ : Problem
 P₂ = fromSheet (C2 .sheet)
 
-pub claims-say-C2 : PlanMargins P₂ 1 (pos 0) (pos 0) → (pos 12 ≤ℤ pos 12) × (pos 144 ≤ℤ pos 144)
+pub residual-sides-C2 : (residual-left P₂ 1 ≡ pos 12) × (residual-right P₂ 1 ≡ pos 12)
 unfolding Holds
-claims-say-C2 claim = (claim .residualTotals 0 (lit< tt), claim .squares)
+residual-sides-C2 = (refl, refl)
+
+-- the squares claim, of every gap: 2·1·gap + 12² ≤ 1²·12²
+pub squares-say-C2 : (low gap : ℤ) → PlanMargins P₂ 1 low gap → (pos 2 *ℤ gap +ℤ pos 144) ≤ℤ pos 144
+unfolding Holds
+squares-say-C2 low gap claim = claim .squares
 
 -- with one less on the larger side each is refuted
 pub residual-C2 : residual-left P₂ 1 ≤ℤ (residual-right P₂ 1 -ℤ pos 1) → ⊥
@@ -206,9 +245,14 @@ pub answered-S₄ : answer S₄ 38 ≡ plan (pos 0) (pos 12)
 unfolding Holds
 answered-S₄ = refl
 
-pub claims-say-P₄ : PlanMargins P₄ 2 (pos 0) (pos 12) → (pos 8 ≤ℤ pos 8) × (pos 160 ≤ℤ pos 160)
+pub residual-sides-P₄ : (residual-left P₄ 2 ≡ pos 8) × (residual-right P₄ 2 ≡ pos 8)
 unfolding Holds
-claims-say-P₄ claim = (claim .residualTotals 0 (lit< tt), claim .squares)
+residual-sides-P₄ = (refl, refl)
+
+-- the squares claim, of every gap: 2·4·gap + 8² ≤ 4²·(3² + 1²)
+pub squares-say-P₄ : (low gap : ℤ) → PlanMargins P₄ 2 low gap → (pos 8 *ℤ gap +ℤ pos 64) ≤ℤ pos 160
+unfolding Holds
+squares-say-P₄ low gap claim = claim .squares
 
 -- with one less on the larger side each is refuted, and so is a gap of 13
 pub residual-P₄ : residual-left P₄ 2 ≤ℤ (residual-right P₄ 2 -ℤ pos 1) → ⊥
@@ -222,3 +266,17 @@ squares-P₄ claim = claim .le
 pub gap-13 : (low : ℤ) → PlanMargins P₄ 2 low (pos 13) → ⊥
 unfolding Holds
 gap-13 low claim = claim .squares .le
+
+-- ---- C4 with p = 4, whose bound x ≤ 1 and limit −x ≤ −5 leave no feasible point. So the two claims over points ask nothing, and
+-- the other two hold by computing, with gap 0: 4·5 ≤ 20, and 2·4·0 + 20² ≤ 4²·5². A claim that asks for more fails here
+abbrev pub P₅ : Problem
+P₅ = fromSheet (encode 1 1 4 1 1 (0 ∶ pos 1 ∷ 128 ∶ pos 1 ∷ 192 ∶ neg 1 ∷ 193 ∶ neg 5 ∷ []))
+
+pub margins-hold-P₅ : NoneFeasible P₅ → (low : ℤ) → PlanMargins P₅ 1 low (pos 0)
+unfolding Holds
+margins-hold-P₅ none low = record {
+  lower = λ d y f. absurd (none d y f);
+  excess = λ d y f. absurd (none d y f);
+  residualTotals = below-one _ (leZ-yes tt);
+  squares = leZ-yes tt;
+}

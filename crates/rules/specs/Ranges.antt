@@ -41,7 +41,7 @@ indexOf Rhs = 4
 
 -- the range of a kind of figure
 unfoldable pub rangeOf : Kind → Range
-rangeOf kind = getD ranges (indexOf kind) (kind from pos 0 to pos 0)
+rangeOf kind = getD ranges (indexOf kind) (Cost from pos 0 to pos 0)
 
 -- the row decides what a figure is: the kind at a row and a column, with n materials
 unfoldable pub kindAt : ℕ → ℕ → ℕ → Kind

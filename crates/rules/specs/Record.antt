@@ -52,6 +52,10 @@ totalsAt n m = multipliersAt n + 4 * m
 unfoldable pub recordLength : ℕ → ℕ → ℕ
 recordLength n m = totalsAt n m + 8 * m
 
+-- the length of the longest: as many materials and limits as a sheet may have
+abbrev pub longestRecord : ℕ
+longestRecord = recordLength 32 16
+
 -- the plan whose figures stand where a record has them
 unfoldable pub recorded : List ℕ → Plan
 recorded r =

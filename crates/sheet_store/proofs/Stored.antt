@@ -10,10 +10,11 @@ use lib.Dec.{eqb}
 use lib.IntN.{ℤ, pos}
 use lib.ListN.{getD, set}
 use Rattle.rules.specs.declared.Kind.{Kind}
-use Rattle.rules.specs.declared.Kind.the-variants.{Cost, Least, Most, Coefficient, Rhs}
+use Rattle.rules.specs.declared.Kind.the-variants.{Cost}
 use Rattle.rules.specs.Sheet.{Sheet, rowOf, columnOf, valueUnder}
 use Rattle.rules.specs.Ranges.{_from_to_, ranges, indexOf, kindAt}
 use Rattle.rules.specs.Refusals.{badValue}
+use Rattle.rules.specs.Examples.{kinds-found}
 use Rattle.proof_laws.specs.Sizes.{SizesInRange}
 use Rattle.proof_laws.specs.Entries.{FigureAt, figure-at, key-parts, parts-key, good-value}
 use Rattle.sheet_figures.specs.PartlyFilled.{placed-cong, placed-set}
@@ -29,12 +30,8 @@ kindOf : ℕ → Kind
 kindOf i = getD ranges i (Cost from pos 0 to pos 0) .kind
 
 kind-index : (kind : Kind) → kindOf (indexOf kind) ≡ kind
-unfolding kindOf ranges indexOf
-kind-index Cost = refl
-kind-index Least = refl
-kind-index Most = refl
-kind-index Coefficient = refl
-kind-index Rhs = refl
+unfolding kindOf
+kind-index kind = let (in-table, own) = kinds-found kind _ in ap (λ range. range .kind) in-table ∙ own
 
 -- ---- entry i of S, whose key stands for a figure
 module _ (S : Sheet) (i : ℕ) where

@@ -3,10 +3,9 @@ use Prim.Native.Nat.{_≤_}
 use mathlib.Core.Path.{_≡_, subst}
 use borrow.Author.Needs.{needs}
 use lib.ListN.{length}
-use Rattle.rules.specs.Record.{recordLength}
+use Rattle.rules.specs.Record.{recordLength, longestRecord}
 use Rattle.rules.specs.Answers.{outcome}
 use Rattle.rules.specs.Listing.{textFrom, listing, Listed}
-use Rattle.out_layout.specs.RecordSizes.{longestRecord}
 use Rattle.out_listing.specs.ListingOfRecord.{listing-is}
 use Rattle.batchplan_lib.proofs.batchplan_listing.Statement.{statement}
 use Rattle.batchplan_lib.proofs.batchplan_listing.Tie as tie
