@@ -15,9 +15,10 @@ stepsLine r = line "steps" (pos (unsignedAt 2 r stepsAt) ∷ [])
 unfoldable pub materialLine : List ℕ → ℕ → List ℕ
 materialLine r j = line "mat" (pos j ∷ signedAt 4 r (sumsAt + 4 * j) ∷ [])
 
--- the line of limit i, in a record whose multipliers begin at place a and residual totals at place b
+-- the line of limit i, in a record with the places where its multipliers and its residual totals begin
 unfoldable pub limitLine : List ℕ → ℕ → ℕ → ℕ → List ℕ
-limitLine r a b i = line "lim" (pos i ∷ signedAt 4 r (a + 4 * i) ∷ signedAt 8 r (b + 8 * i) ∷ [])
+limitLine r multipliers totals i =
+    line "lim" (pos i ∷ signedAt 4 r (multipliers + 4 * i) ∷ signedAt 8 r (totals + 8 * i) ∷ [])
 
 -- the sums of the first n materials stand in the bytes
 pub record MaterialsInside (r : List ℕ) (n : ℕ) : Type 0 where
@@ -25,7 +26,7 @@ pub record MaterialsInside (r : List ℕ) (n : ℕ) : Type 0 where
   pub whole : multipliersAt n ≤ length r
 
 -- the figures of the first m limits stand in the bytes
-pub record LimitsInside (r : List ℕ) (a b m : ℕ) : Type 0 where
+pub record LimitsInside (r : List ℕ) (multipliers totals m : ℕ) : Type 0 where
   pub few : m ≤ 16
-  pub multipliers : a + 4 * m ≤ length r
-  pub totals : b + 8 * m ≤ length r
+  pub multipliers-inside : multipliers + 4 * m ≤ length r
+  pub totals-inside : totals + 8 * m ≤ length r

@@ -48,26 +48,40 @@ pub fn put_materials(d: &mut [u8], at: usize, record: &[u8], n: usize) -> usize
     end
 }
 
-// The line of a limit, in a record whose multipliers begin at place a and residual totals at place b.
-fn put_limit(d: &mut [u8], at: usize, record: &[u8], a: usize, b: usize, i: usize) -> usize
-    requires { ⌜ LimitsInside (now «record») a b (suc i) ⌝ }
-    ensures { λ r. ⌜ Puts (limitLine (now («record» .entry)) a b i) (now (d .entry)) at (now (d .exit)) r ⌝ }
+// The line of a limit, in a record with the places where its multipliers and its residual totals begin.
+fn put_limit(
+    d: &mut [u8],
+    at: usize,
+    record: &[u8],
+    multipliers: usize,
+    totals: usize,
+    i: usize,
+) -> usize
+    requires { ⌜ LimitsInside (now «record») multipliers totals (suc i) ⌝ }
+    ensures { λ r. ⌜ Puts (limitLine (now («record» .entry)) multipliers totals i) (now (d .entry)) at (now (d .exit)) r ⌝ }
 {
-    let multiplier = signed_at(record, a + 4 * i, 4);
-    let total = signed_at(record, b + 8 * i, 8);
+    let multiplier = signed_at(record, multipliers + 4 * i, 4);
+    let total = signed_at(record, totals + 8 * i, 8);
     let figures = [i as i64, multiplier, total];
     put_line(d, at, b"lim", &figures)
 }
 
 // The lines of the limits.
-pub fn put_limits(d: &mut [u8], at: usize, record: &[u8], a: usize, b: usize, m: usize) -> usize
-    requires { ⌜ LimitsInside (now «record») a b m ⌝ }
-    ensures { λ r. ⌜ Puts (lines m (limitLine (now («record» .entry)) a b)) (now (d .entry)) at (now (d .exit)) r ⌝ }
+pub fn put_limits(
+    d: &mut [u8],
+    at: usize,
+    record: &[u8],
+    multipliers: usize,
+    totals: usize,
+    m: usize,
+) -> usize
+    requires { ⌜ LimitsInside (now «record») multipliers totals m ⌝ }
+    ensures { λ r. ⌜ Puts (lines m (limitLine (now («record» .entry)) multipliers totals)) (now (d .entry)) at (now (d .exit)) r ⌝ }
 {
     let mut end = at;
     let mut i: usize = 0;
     while i < m {
-        end = put_limit(d, end, record, a, b, i);
+        end = put_limit(d, end, record, multipliers, totals, i);
         i += 1;
     }
     end
