@@ -20,7 +20,7 @@ use Rattle.sheet_figures.specs.Figures.{problemIn, problemOf}
 use Rattle.run_sums.specs.SumsFit.{SumFits}
 use Rattle.run_costs.specs.OfRun.{cost-fits}
 use Rattle.run_look.specs.LookFits.{AmountsFit, ResidualsFit, LookFits}
-use Rattle.run_totals.specs.Moves.{limitsMoved, MoveFits}
+use Rattle.run_moves.specs.Moves.{limitsMoved, MoveFits}
 use Rattle.run_totals.specs.Totals.{TotalsFit}
 
 -- the problem that the look is lent: all but the step numerator, which it does not use

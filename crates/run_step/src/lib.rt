@@ -10,9 +10,9 @@ use rules::Refusal;
 use rules::Verdict;
 use run_arithmetic::larger;
 use run_look::look_at;
+use run_moves::move_multipliers;
 use run_totals::add_amounts;
 use run_totals::add_residuals;
-use run_totals::move_multipliers;
 use sheet_figures::Figures;
 
 // The state of the run.

@@ -1,37 +1,11 @@
-// What a step changes in place: the multipliers move, and the totals take the step's amounts and residuals.
+// What a step adds in place: the sums take its amounts, and the residual totals its residuals.
 ghost use lib.IntN.{_+ℤ_};
 ghost use mir.Syntax.{w32, w64};
 ghost use Rattle.rules.specs.Notation.{at};
 ghost use Rattle.run_totals.specs.Changed.{Changed};
-ghost use Rattle.run_totals.specs.Moves.{limitsMoved, MoveFits, Moved};
 ghost use Rattle.run_totals.specs.Totals.{TotalsFit};
-use run_arithmetic::larger;
 use run_arithmetic::plus_32;
 use run_arithmetic::plus_64;
-
-// The move of the multipliers in place, each from its old one. It ends before the first that diverged, and answers whether there is one.
-pub fn move_multipliers<'a>(
-    m: usize,
-    numerator: usize,
-    multipliers: &'a mut [i32; 16],
-    residuals: &'a [i32; 16],
-) -> bool
-    requires { ⌜ MoveFits (limitsMoved m numerator) (at (now multipliers)) (at (now residuals)) ⌝ }
-    ensures { λ r. ⌜ Moved (limitsMoved m numerator) (at (now (residuals .entry))) (now (multipliers .entry)) (now (multipliers .exit)) r ⌝ }
-{
-    let p = numerator as i64;
-    let mut i: usize = 0;
-    while i < m {
-        let old = multipliers[i] as i64;
-        let new = larger(0, plus_64(old, p * (residuals[i] as i64)));
-        if 1073741824 < new {
-            return true;
-        }
-        multipliers[i] = new as i32;
-        i += 1;
-    }
-    false
-}
 
 // The amounts of one step more, added to the sums in place.
 pub fn add_amounts<'a>(n: usize, sums: &'a mut [i32; 32], amounts: &'a [i16; 32])

@@ -23,7 +23,7 @@ use Rattle.sheet_figures.specs.declared.Figures.{Figures}
 use Rattle.sheet_figures.specs.Padded.{padded}
 use Rattle.sheet_figures.specs.Figures.{problemOf}
 use Rattle.run_look.specs.LookFits.{LookFits}
-use Rattle.run_totals.specs.Moves.{limitsMoved, MoveFits, places-all}
+use Rattle.run_moves.specs.Moves.{limitsMoved, MoveFits, places-all}
 use Rattle.run_totals.specs.Totals.{TotalsFit}
 use Rattle.run_totals.specs.Changed.{changed-end}
 use Rattle.run_step.specs.States.{stateIn}

@@ -19,10 +19,10 @@ use Rattle.rules.specs.Notation.{maxℤ, at}
 use Rattle.rules.specs.Problem.{Problem}
 use Rattle.rules.specs.Step.{anyBelow, moved, diverged}
 use Rattle.proof_laws.specs.Below.{any-start, any-more, any-found}
-use Rattle.run_totals.specs.Moves.{limitsMoved, tooLarge, places-all, places-found}
+use Rattle.run_moves.specs.Moves.{limitsMoved, tooLarge, places-all, places-found}
 use Rattle.run_totals.specs.Changed.{Changed, changed-start, changed-next, changed-end}
-use Rattle.run_totals.proofs.move_multipliers.Statement.{statement}
-use Rattle.run_totals.proofs.move_multipliers.Tie as tie
+use Rattle.run_moves.proofs.move_multipliers.Statement.{statement}
+use Rattle.run_moves.proofs.move_multipliers.Tie as tie
 
 module _ (P : Problem) (old : List ℤ) (g : ℕ → ℤ) where
   -- the multiplier of limit i after the move
