@@ -10,7 +10,7 @@ use mir.Syntax.{w64}
 use mir.Val.{SFits}
 use Rattle.rules.specs.Refusals.{Numbered}
 use Rattle.rules.specs.Listing.{text, decimal, spaced, line, lines, refusalText}
-use Rattle.out_text.specs.DecimalLength.{length-decimal}
+use Rattle.out_numbers.specs.DecimalLength.{length-decimal}
 
 -- every figure of a line is a number of 64 bits
 unfoldable pub Every : List ℤ → Type 0

@@ -7,11 +7,11 @@ ghost use Rattle.rules.specs.Refusals.{numbered};
 ghost use Rattle.rules.specs.Listing.{text as ascii, decimal, spaced, refusalText};
 ghost use Rattle.out_text.specs.Text.{Puts};
 ghost use Rattle.out_lines.specs.Lines.{lineOf, Begins};
+use out_numbers::put_integer;
+use out_numbers::put_number;
 use out_refusals::number_of;
 use out_text::put_byte;
 use out_text::put_bytes;
-use out_text::put_integer;
-use out_text::put_number;
 use rules::Refusal;
 
 // A space and a number.

@@ -6,8 +6,8 @@ use bytes_read::size_at;
 use rules::Cause;
 use rules::Refusal;
 use rules::Verdict;
-use sheet_ranges::dimensions_in_range;
-use sheet_ranges::parameters_in_range;
+use sheet_sizes::dimensions_in_range;
+use sheet_sizes::parameters_in_range;
 
 // The six sizes: n, m, e, p, D and k.
 pub struct Sizes {

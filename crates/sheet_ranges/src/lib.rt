@@ -1,7 +1,7 @@
-// The table of ranges, a constant, and the ranges of the sizes. Whoever reads, writes or edits a sheet consults these.
+// The table of ranges, a constant. Whoever reads, writes or edits a sheet consults it.
 ghost use Prim.Native.Nat.{_<_};
 ghost use mathlib.Core.Path.{_≡_};
-ghost use Rattle.rules.specs.Ranges.{indexOf, rangeOf, inRange, between, dimensionsInRange, parametersInRange};
+ghost use Rattle.rules.specs.Ranges.{indexOf, rangeOf, inRange};
 use rules::Kind;
 use rules::Range;
 
@@ -67,28 +67,4 @@ pub fn in_range(kind: Kind, value: i32) -> bool
     let least = range.least;
     let greatest = range.greatest;
     (least <= value) & (value <= greatest)
-}
-
-// Whether a size lies from its least to its greatest.
-fn between(least: usize, greatest: usize, size: usize) -> bool
-    ensures { λ r. ⌜ r ≡ between least greatest size ⌝ }
-{
-    (least <= size) & (size <= greatest)
-}
-
-// Whether n, m and e lie in their ranges. The product is formed where n and m do.
-pub fn dimensions_in_range(n: usize, m: usize, e: usize) -> bool
-    ensures { λ r. ⌜ r ≡ dimensionsInRange n m e ⌝ }
-{
-    if between(1, 32, n) & between(0, 16, m) {
-        return e <= n * (m + 3) + m;
-    }
-    false
-}
-
-// Whether p, D and k lie in their ranges.
-pub fn parameters_in_range(p: usize, d: usize, k: usize) -> bool
-    ensures { λ r. ⌜ r ≡ parametersInRange p d k ⌝ }
-{
-    between(1, 1024, p) & between(1, 1024, d) & between(1, 4096, k)
 }

@@ -2,7 +2,7 @@
 use borrow.Author.Needs.{needs}
 use Rattle.rules.specs.Listing.{text}
 use Rattle.out_text.specs.Growing.{then}
-use Rattle.out_text.specs.DecimalLength.{length-decimal-pos}
+use Rattle.out_numbers.specs.DecimalLength.{length-decimal-pos}
 use Rattle.out_lines.proofs.put_size.Statement.{statement}
 use Rattle.out_lines.proofs.put_size.Tie as tie
 

@@ -7,7 +7,7 @@ use lib.ListN.{length, drop, drop-of-length-le}
 use lib.Seq.{drop-cons}
 use borrow.Author.Needs.{needs}
 use Rattle.out_text.specs.Growing.{length-kept}
-use Rattle.out_text.proofs.StillToPut.{StillToPut, left-next, left-none}
+use Rattle.out_text.specs.StillToPut.{StillToPut, left-next, left-none}
 use Rattle.out_text.proofs.put_bytes.Statement.{statement}
 use Rattle.out_text.proofs.put_bytes.Tie as tie
 

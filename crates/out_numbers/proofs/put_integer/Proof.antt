@@ -14,9 +14,9 @@ use mir.Val.{SFits, toZ, ofZ}
 use mir.Facts.{toZ-ofZ, toZ-pos}
 use Rattle.proof_integer.specs.Range.{mag-below-zero}
 use Rattle.rules.specs.Listing.{text, decimal}
 use Rattle.out_text.specs.Growing.{then}
-use Rattle.out_text.proofs.put_integer.Statement.{statement}
-use Rattle.out_text.proofs.put_integer.Tie as tie
+use Rattle.out_numbers.proofs.put_integer.Statement.{statement}
+use Rattle.out_numbers.proofs.put_integer.Tie as tie
 
 -- what is below 0
 below-decimal : (z : ℤ) → ltZ z (pos 0) ≡ true → (45 ∷ []) ++ decimal (pos (mag z + 1)) ≡ decimal z

@@ -2,8 +2,8 @@
 use mathlib.Core.Path.{refl}
 use borrow.Author.Needs.{needs}
 use Rattle.rules.specs.Ranges.{parametersInRange}
-use Rattle.sheet_ranges.proofs.parameters_in_range.Statement.{statement}
-use Rattle.sheet_ranges.proofs.parameters_in_range.Tie as tie
+use Rattle.sheet_sizes.proofs.parameters_in_range.Statement.{statement}
+use Rattle.sheet_sizes.proofs.parameters_in_range.Tie as tie
 
 returns : tie.Need-returns
 unfolding parametersInRange

@@ -8,8 +8,8 @@ use borrow.Author.Needs.{needs}
 use borrow.Author.Tests.{le-leb, leb-true}
 use Rattle.rules.specs.Ranges.{between, mostEntries, dimensionsInRange}
 use Rattle.proof_laws.specs.Sizes.{few-entries}
-use Rattle.sheet_ranges.proofs.dimensions_in_range.Statement.{statement}
-use Rattle.sheet_ranges.proofs.dimensions_in_range.Tie as tie
+use Rattle.sheet_sizes.proofs.dimensions_in_range.Statement.{statement}
+use Rattle.sheet_sizes.proofs.dimensions_in_range.Tie as tie
 
 -- n and m in their ranges leave so few entries that no sum wraps
 few : (n m : ℕ) → (between 1 32 n && between 0 16 m) ≡ true → n * (m + 3) + m ≤ mostEntries 32 16

@@ -5,10 +5,10 @@ use lib.ListN.{length}
 use lib.IntN.{pos}
 use borrow.Author.Needs.{needs}
 use Rattle.rules.specs.Listing.{decimal}
-use Rattle.out_text.specs.DecimalLength.{length-decimal-below}
-use Rattle.out_text.proofs.Digits.{some-decimal, more-decimal}
-use Rattle.out_text.proofs.places.Statement.{statement}
-use Rattle.out_text.proofs.places.Tie as tie
+use Rattle.out_numbers.specs.DecimalLength.{length-decimal-below}
+use Rattle.out_numbers.proofs.Digits.{some-decimal, more-decimal}
+use Rattle.out_numbers.proofs.places.Statement.{statement}
+use Rattle.out_numbers.proofs.places.Tie as tie
 
 abbrev Inv-loop : tie.InvT-loop
 Inv-loop v count₀ count = (0 < count) × (count ≤ 20) × (count ≤ length (decimal (pos v)))

@@ -2,8 +2,8 @@
 use Prim.Native.Nat.{_^_}
 use borrow.Author.Needs.{needs}
 use Rattle.proof_integer.specs.Vector.{getD-tabulate}
-use Rattle.out_text.proofs.power.Statement.{statement}
-use Rattle.out_text.proofs.power.Tie as tie
+use Rattle.out_numbers.proofs.power.Statement.{statement}
+use Rattle.out_numbers.proofs.power.Tie as tie
 use Rattle.rules.specs.Notation.{tabulate}
 
 returns : tie.Need-returns

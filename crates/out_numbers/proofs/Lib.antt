@@ -1,0 +1,3 @@
+-- What the proofs share.
+--   Digits   the digits of a number from its first on, and how many there are
+pub mod Digits
