@@ -12,7 +12,7 @@ use Rattle.rules.specs.Run.{lookAfter}
 use Rattle.rules.specs.Margins.{square, PlanMargins, Margins}
 use Rattle.rules.specs.Rows.{Holds}
 use Rattle.rules.specs.Marked.{C1, C2, C3}
-use Rattle.rules.specs.Points.{fromSheet, P₁, P₂, S₄, P₄, recipe, recipe-feasible, halves, halves-feasible}
+use Rattle.rules.specs.Points.{fromSheet, P₁, P₂, S₄, P₄, wholes, wholes-feasible, halves, halves-feasible}
 use Rattle.rules.specs.Points.{residual-left, residual-right, squares-left, squares-right}
 use Rattle.proof_magnitudes.specs.Minimal.{most, AllMinimal, WithinBounds}
 use Rattle.proof_magnitudes.specs.Steps.{entering}
@@ -26,9 +26,9 @@ unfolding Holds Margins
 margins-C1 = margins (C1 .sheet) (C1 .room)
 
 -- the recipe (1, 10) meets both claims with equality, 104 ≤ 104 and −16 ≤ −16
-pub at-recipe : (pos 104 ≤ℤ pos 104) × (neg 16 ≤ℤ neg 16)
+pub at-wholes : (pos 104 ≤ℤ pos 104) × (neg 16 ≤ℤ neg 16)
 unfolding Holds
-at-recipe = (margins-C1 .lower (pos 1) recipe recipe-feasible, margins-C1 .excess (pos 1) recipe recipe-feasible)
+at-wholes = (margins-C1 .lower (pos 1) wholes wholes-feasible, margins-C1 .excess (pos 1) wholes wholes-feasible)
 
 -- the recipe (3/2, 9) keeps both, 208 ≤ 216 and −64 ≤ −32
 pub at-halves : (pos 208 ≤ℤ pos 216) × (neg 64 ≤ℤ neg 32)

@@ -45,12 +45,12 @@ abbrev pub P₁ : Problem
 P₁ = fromSheet (C1 .sheet)
 
 -- the recipe (1, 10): −2 − 10 = −12
-abbrev pub recipe : ℕ → ℤ
-recipe = two (pos 1) (pos 10)
+abbrev pub wholes : ℕ → ℤ
+wholes = two (pos 1) (pos 10)
 
-pub recipe-feasible : Feasible P₁ (pos 1) recipe
+pub wholes-feasible : Feasible P₁ (pos 1) wholes
 unfolding Holds
-recipe-feasible = record {
+wholes-feasible = record {
   divisor = ltZ-yes tt;
   above = below-two _ (leZ-yes tt) (leZ-yes tt);
   below = below-two _ (leZ-yes tt) (leZ-yes tt);
@@ -120,23 +120,23 @@ margins-of-plan low gap claim = claim
 pub lower-says : (low gap : ℤ) → PlanMargins P₁ 4 low gap
     → ((pos 1 *ℤ low) ≤ℤ pos 104) × ((pos 2 *ℤ low) ≤ℤ pos 216)
 unfolding Holds
-lower-says low gap claim = (claim .lower (pos 1) recipe recipe-feasible, claim .lower (pos 2) halves halves-feasible)
+lower-says low gap claim = (claim .lower (pos 1) wholes wholes-feasible, claim .lower (pos 2) halves halves-feasible)
 
 -- of every gap: 1·8·50 − 4·8·13 ≤ 1·gap, and 2·8·50 − 4·8·27 ≤ 2·gap. The gap of C1 meets the first with equality
 pub excess-says : (low gap : ℤ) → PlanMargins P₁ 4 low gap
     → (neg 16 ≤ℤ (pos 1 *ℤ gap)) × (neg 64 ≤ℤ (pos 2 *ℤ gap))
 unfolding Holds
-excess-says low gap claim = (claim .excess (pos 1) recipe recipe-feasible, claim .excess (pos 2) halves halves-feasible)
+excess-says low gap claim = (claim .excess (pos 1) wholes wholes-feasible, claim .excess (pos 2) halves halves-feasible)
 
 -- the recipe (1, 10) costs 13, so that a low of 105 is refuted by it
 pub low-105 : (gap : ℤ) → PlanMargins P₁ 4 (pos 105) gap → ⊥
 unfolding Holds
-low-105 gap claim = claim .lower (pos 1) recipe recipe-feasible .le
+low-105 gap claim = claim .lower (pos 1) wholes wholes-feasible .le
 
 -- and a gap of −17
 pub gap-17 : (low : ℤ) → PlanMargins P₁ 4 low (neg 17) → ⊥
 unfolding Holds
-gap-17 low claim = claim .excess (pos 1) recipe recipe-feasible .le
+gap-17 low claim = claim .excess (pos 1) wholes wholes-feasible .le
 
 -- ---- C8 with D = 3. Its cost is negative, so that here a claim without D, or with one step for all, would say less
 abbrev pub P₃ : Problem
@@ -160,10 +160,10 @@ negative-says low gap claim =
     (claim .lower (pos 2) (one (pos 6)) negative-feasible, claim .excess (pos 2) (one (pos 6)) negative-feasible)
 
 -- ---- of every sheet: after refusal 9, at any place, the margins say that there is no feasible point ..
-pub margins-of-no-blend : (s : List ℕ) (place : ℕ) → Margins s (refused (record { number = 9; place = place }))
+pub margins-of-infeasible : (s : List ℕ) (place : ℕ) → Margins s (refused (record { number = 9; place = place }))
     → NoneFeasible (fromSheet s)
 unfolding Margins
-margins-of-no-blend s place claim = claim refl
+margins-of-infeasible s place claim = claim refl
 
 -- .. and after any other nothing, so that they hold
 pub margins-of-others : (s : List ℕ) (r : Numbered) → (r .number ≡ 9 → ⊥) → Margins s (refused r)
