@@ -16,8 +16,8 @@ use out_layout::record_length;
 use out_layout::totals_at;
 use out_rows::put_limits;
 use out_rows::put_materials;
-use out_rows::put_steps;
-use out_rows::put_value;
+use out_values::put_steps;
+use out_values::put_value;
 
 // The lines of a plan.
 fn put_plan(d: &mut [u8], record: &[u8], n: usize, m: usize) -> usize

@@ -1,15 +1,11 @@
--- The lines of a listing, out of the bytes of a record.
+-- The lines of materials and limits, out of the bytes of a record.
 use Prim.Native.Nat.{ℕ, _+_, _*_, _≤_}
 use mathlib.Core.List.{List, [], _∷_}
 use lib.ListN.{length}
 use lib.IntN.{pos}
-use Rattle.rules.specs.Bytes.{unsignedAt, signedAt}
-use Rattle.rules.specs.Record.{stepsAt, sumsAt, multipliersAt}
+use Rattle.rules.specs.Bytes.{signedAt}
+use Rattle.rules.specs.Record.{sumsAt, multipliersAt}
 use Rattle.rules.specs.Listing.{line}
-
--- the line of the step count
-unfoldable pub stepsLine : List ℕ → List ℕ
-stepsLine r = line "steps" (pos (unsignedAt 2 r stepsAt) ∷ [])
 
 -- the line of material j
 unfoldable pub materialLine : List ℕ → ℕ → List ℕ

@@ -8,10 +8,6 @@ use Rattle.rules.specs.Step.{Look}
 use Rattle.sheet_figures.specs.Padded.{padded}
 use Rattle.sheet_figures.specs.Figures.{problemIn}
 
--- all figures but b
-abbrev pub withoutRhs : (n m D : ℕ) → (c l u a : List ℤ) → Problem
-withoutRhs n m D c l u a = problemIn n m 0 D c l u a []
-
 -- the limits: a and b
 abbrev pub limitsOnly : (n m : ℕ) → (a b : List ℤ) → Problem
 limitsOnly n m a b = problemIn n m 0 0 [] [] [] a b

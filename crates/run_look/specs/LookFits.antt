@@ -10,17 +10,8 @@ use Rattle.rules.specs.Notation.{at}
 use Rattle.rules.specs.Problem.{Problem, costOf}
 use Rattle.rules.specs.Step.{residual, lookAt}
 use Rattle.run_sums.specs.SumsFit.{SumFits}
+use Rattle.run_amounts.specs.Amounts.{AmountsFit}
 use Rattle.run_costs.specs.Costs.{CostFits}
-
--- the reduced costs, and an array of zeros for the amounts
-pub record AmountsFit (P : Problem) (M : ℕ → ℤ) (amounts : List ℤ) : Type 0 where
-  pub empty : amounts ≡ replicate 32 (pos 0)
-  pub narrow : P .materials ≤ 32
-  pub few : P .limits ≤ 16
-  pub scale : P .scale ≤ 1024
-  pub scaled-cost : (j : ℕ) → j < P .materials → SFits w64 (pos (P .scale) *ℤ P .cost j)
-  pub reduced : (j : ℕ) → j < P .materials
-      → SumFits w64 (pos (P .scale) *ℤ P .cost j) (λ i. M i *ℤ P .coefficient i j) (P .limits)
 
 -- the loads and residuals of amounts x, and an array of zeros for the residuals
 pub record ResidualsFit (P : Problem) (x : ℕ → ℤ) (residuals : List ℤ) : Type 0 where

@@ -1,43 +1,15 @@
 // A look at given multipliers: the amounts that minimise the Lagrangian, their residuals, and the dual value.
 ghost use mathlib.Core.Path.{_≡_};
 ghost use Rattle.rules.specs.Notation.{tabulate, at};
-ghost use Rattle.rules.specs.Step.{amount, residual, lookAt};
+ghost use Rattle.rules.specs.Step.{residual, lookAt};
 ghost use Rattle.sheet_figures.specs.Figures.{problemIn};
 ghost use Rattle.sheet_figures.specs.Padded.{padded};
-ghost use Rattle.run_look.specs.Given.{withoutRhs, limitsOnly, LookIn};
-ghost use Rattle.run_look.specs.LookFits.{AmountsFit, ResidualsFit, LookFits};
+ghost use Rattle.run_look.specs.Given.{limitsOnly, LookIn};
+ghost use Rattle.run_look.specs.LookFits.{ResidualsFit, LookFits};
+use run_amounts::choose_amounts;
 use run_costs::scaled_cost;
-use run_ends::end_by;
 use run_sums::dot_32;
 use run_sums::dot_64;
-use run_sums::dot_column_64;
-
-// The amounts ("step amounts") at given multipliers, into an array of zeros: each material takes the end that its reduced
-// cost ("weight") chooses.
-fn choose_amounts<'a>(
-    n: usize,
-    m: usize,
-    scale: usize,
-    cost: &'a [i16; 32],
-    least: &'a [i16; 32],
-    most: &'a [i16; 32],
-    coefficient: &'a [i16; 512],
-    multipliers: &'a [i32; 16],
-    amounts: &'a mut [i16; 32],
-)
-    requires { ⌜ AmountsFit (withoutRhs n m scale (now cost) (now least) (now most) (now coefficient)) (at (now multipliers)) (now amounts) ⌝ }
-    ensures { λ _. ⌜ now (amounts .exit) ≡ padded 32 (tabulate n (amount
-        (withoutRhs n m scale (now (cost .entry)) (now (least .entry)) (now (most .entry)) (now (coefficient .entry)))
-        (at (now (multipliers .entry))))) ⌝ }
-{
-    let d = scale as i64;
-    let mut j: usize = 0;
-    while j < n {
-        let reduced = dot_column_64(m, d * (cost[j] as i64), multipliers, coefficient, j, 32);
-        amounts[j] = end_by(reduced, least[j], most[j]);
-        j += 1;
-    }
-}
 
 // The residuals ("misses") of amounts, into an array of zeros: what limit i keeps under b_i, less b_i.
 fn take_residuals<'a>(

@@ -19,7 +19,8 @@ use Rattle.sheet_figures.specs.declared.Figures.{Figures}
 use Rattle.sheet_figures.specs.Figures.{problemIn, problemOf}
 use Rattle.run_sums.specs.SumsFit.{SumFits}
 use Rattle.run_costs.specs.OfRun.{cost-fits}
-use Rattle.run_look.specs.LookFits.{AmountsFit, ResidualsFit, LookFits}
+use Rattle.run_amounts.specs.Amounts.{AmountsFit}
+use Rattle.run_look.specs.LookFits.{ResidualsFit, LookFits}
 use Rattle.run_moves.specs.Moves.{limitsMoved, MoveFits}
 use Rattle.run_totals.specs.Totals.{TotalsFit}
 

@@ -7,8 +7,8 @@ use mir.Val.{SFits}
 use mir.Facts.{toZ-ofZ}
 use Rattle.out_text.specs.Growing.{puts-as}
 use Rattle.out_lines.specs.Lines.{lineOf}
-use Rattle.out_rows.proofs.put_value.Statement.{statement}
-use Rattle.out_rows.proofs.put_value.Tie as tie
+use Rattle.out_values.proofs.put_value.Statement.{statement}
+use Rattle.out_values.proofs.put_value.Tie as tie
 
 returns : tie.Need-returns
 returns c =

@@ -1,0 +1,3 @@
+-- Lines of single figures of a record.
+--   ValueLines   the line of the step count
+pub mod ValueLines
