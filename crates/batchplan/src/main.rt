@@ -17,20 +17,20 @@ const ROOM: usize = 4096;
 
 // How many bytes were read, and whether a read failed.
 struct Input {
-    length: usize,
+    filled: usize,
     failed: bool,
 }
 
 // Reads until `sheet` is full, the input ends or a read fails, however the input is cut.
 fn read_input(sheet: &mut [u8]) -> Input
-    ensures { λ r. ⌜ r .length ≤ length (now (sheet .exit)) ⌝ }
+    ensures { λ r. ⌜ r .filled ≤ length (now (sheet .exit)) ⌝ }
 {
     let mut done: usize = 0;
     while done < sheet.len() {
         let got = libc::read(STDIN_FILENO, &mut sheet[done..]);
         if got < 0 {
             return Input {
-                length: done,
+                filled: done,
                 failed: true,
             };
         }
@@ -41,7 +41,7 @@ fn read_input(sheet: &mut [u8]) -> Input
         done += more;
     }
     Input {
-        length: done,
+        filled: done,
         failed: false,
     }
 }
@@ -65,6 +65,6 @@ fn main() {
         io::write_all(STDERR_FILENO, b"batchplan: cannot read standard input\n");
         return;
     }
-    let length = input.length;
-    print_listing(&sheet[0..length]);
+    let filled = input.filled;
+    print_listing(&sheet[0..filled]);
 }

@@ -30,10 +30,10 @@ const LENT: usize = 400;
 // The room for a line. A line takes less than 900 bytes.
 const ROOM: usize = 1024;
 
-// Each function from here to `put_hex` puts something at the end of the line, and answers the place after it.
+// Each function from here to `show_hex` puts something at the end of the line, and answers the place after it.
 
 // A plan.
-fn put_plan(line: &mut [u8], low: i64, gap: i64) -> usize {
+fn show_plan(line: &mut [u8], low: i64, gap: i64) -> usize {
     let named = put_bytes(line, 0, b"plan ");
     let bounded = put_integer(line, named, low);
     let parted = put_byte(line, bounded, b' ');
@@ -41,7 +41,7 @@ fn put_plan(line: &mut [u8], low: i64, gap: i64) -> usize {
 }
 
 // A refusal.
-fn put_refused(line: &mut [u8], refusal: Refusal) -> usize {
+fn show_refused(line: &mut [u8], refusal: Refusal) -> usize {
     let cause = refusal.cause;
     let named = put_bytes(line, 0, b"refused ");
     let numbered = put_number(line, named, number_of(cause) as u64);
@@ -50,26 +50,26 @@ fn put_refused(line: &mut [u8], refusal: Refusal) -> usize {
 }
 
 // An answer.
-fn put_answer(line: &mut [u8], answer: Answer) -> usize {
+fn show_answer(line: &mut [u8], answer: Answer) -> usize {
     match answer {
-        Answer::Plan { low, gap } => put_plan(line, low, gap),
-        Answer::Refused(refusal) => put_refused(line, refusal),
+        Answer::Plan { low, gap } => show_plan(line, low, gap),
+        Answer::Refused(refusal) => show_refused(line, refusal),
     }
 }
 
 // A byte in two hexadecimal digits.
-fn put_hex_byte(line: &mut [u8], at: usize, byte: u8) -> usize {
+fn show_hex_byte(line: &mut [u8], at: usize, byte: u8) -> usize {
     let mut digits = [0u8; 16];
     let count = io::hex(byte as u64, 2, &mut digits);
     put_bytes(line, at, &digits[..count])
 }
 
 // Bytes in hexadecimal, one after the other.
-fn put_hex(line: &mut [u8], at: usize, bytes: &[u8]) -> usize {
+fn show_hex(line: &mut [u8], at: usize, bytes: &[u8]) -> usize {
     let mut end = at;
     let mut i: usize = 0;
     while i < bytes.len() {
-        end = put_hex_byte(line, end, bytes[i]);
+        end = show_hex_byte(line, end, bytes[i]);
         i += 1;
     }
     end
@@ -88,9 +88,9 @@ fn fill(buffer: &mut [u8]) {
 fn print_plan(sheet: &[u8], buffer: &mut [u8]) {
     fill(buffer);
     let mut line = [0u8; ROOM];
-    let answered = put_answer(&mut line, planner::plan(sheet, buffer));
+    let answered = show_answer(&mut line, planner::plan(sheet, buffer));
     let parted = put_byte(&mut line, answered, b' ');
-    let filled = put_hex(&mut line, parted, buffer);
+    let filled = show_hex(&mut line, parted, buffer);
     let end = put_byte(&mut line, filled, b'\n');
     write_line(&line, end);
 }

@@ -24,16 +24,16 @@ use sheet_read::Reading;
 // The room for a line. A line with every figure takes less than 9,000 bytes.
 const ROOM: usize = 16384;
 
-// Each function from here to `put_reading` puts something at the end of the line, and answers the place after it.
+// Each function from here to `show_reading` puts something at the end of the line, and answers the place after it.
 
 // A space and a size.
-fn put_size(line: &mut [u8], at: usize, size: usize) -> usize {
+fn show_size(line: &mut [u8], at: usize, size: usize) -> usize {
     let parted = put_byte(line, at, b' ');
     put_number(line, parted, size as u64)
 }
 
 // The place of a figure in its array. That of an a_ij, 32 i + j, is put as i and j.
-fn put_place(line: &mut [u8], at: usize, letter: u8, place: usize) -> usize {
+fn show_place(line: &mut [u8], at: usize, letter: u8, place: usize) -> usize {
     if letter == b'a' {
         let limit = put_number(line, at, (place / 32) as u64);
         let comma = put_byte(line, limit, b',');
@@ -43,70 +43,70 @@ fn put_place(line: &mut [u8], at: usize, letter: u8, place: usize) -> usize {
 }
 
 // A figure. One of 0 is left out.
-fn put_figure(line: &mut [u8], at: usize, letter: u8, place: usize, value: i64) -> usize {
+fn show_figure(line: &mut [u8], at: usize, letter: u8, place: usize, value: i64) -> usize {
     if value == 0 {
         return at;
     }
     let parted = put_byte(line, at, b' ');
     let named = put_byte(line, parted, letter);
-    let placed = put_place(line, named, letter, place);
+    let placed = show_place(line, named, letter, place);
     let equals = put_byte(line, placed, b'=');
     put_integer(line, equals, value)
 }
 
 // The figures of an array of 16 bits.
-fn put_figures(line: &mut [u8], at: usize, letter: u8, figures: &[i16]) -> usize {
+fn show_figures(line: &mut [u8], at: usize, letter: u8, figures: &[i16]) -> usize {
     let mut end = at;
     let mut i: usize = 0;
     while i < figures.len() {
-        end = put_figure(line, end, letter, i, figures[i] as i64);
+        end = show_figure(line, end, letter, i, figures[i] as i64);
         i += 1;
     }
     end
 }
 
 // The right-hand sides b of the limits.
-fn put_rhs(line: &mut [u8], at: usize, rhs: &[i32]) -> usize {
+fn show_rhs(line: &mut [u8], at: usize, rhs: &[i32]) -> usize {
     let mut end = at;
     let mut i: usize = 0;
     while i < rhs.len() {
-        end = put_figure(line, end, b'b', i, rhs[i] as i64);
+        end = show_figure(line, end, b'b', i, rhs[i] as i64);
         i += 1;
     }
     end
 }
 
 // The sizes of an accepted sheet.
-fn put_sizes(line: &mut [u8], f: Figures) -> usize {
+fn show_sizes(line: &mut [u8], f: Figures) -> usize {
     let mut at = put_bytes(line, 0, b"accepted");
-    at = put_size(line, at, f.materials);
-    at = put_size(line, at, f.limits);
-    at = put_size(line, at, f.numerator);
-    at = put_size(line, at, f.scale);
-    put_size(line, at, f.steps)
+    at = show_size(line, at, f.materials);
+    at = show_size(line, at, f.limits);
+    at = show_size(line, at, f.numerator);
+    at = show_size(line, at, f.scale);
+    show_size(line, at, f.steps)
 }
 
 // The figures of the materials.
-fn put_materials(line: &mut [u8], at: usize, f: Figures) -> usize {
-    let priced = put_figures(line, at, b'c', &f.cost);
-    let above = put_figures(line, priced, b'l', &f.least);
-    put_figures(line, above, b'u', &f.most)
+fn show_materials(line: &mut [u8], at: usize, f: Figures) -> usize {
+    let priced = show_figures(line, at, b'c', &f.cost);
+    let above = show_figures(line, priced, b'l', &f.least);
+    show_figures(line, above, b'u', &f.most)
 }
 
 // The line of an accepted sheet.
-fn put_accepted(line: &mut [u8], f: Figures) -> usize {
-    let sized = put_sizes(line, f);
-    let materials = put_materials(line, sized, f);
-    let coefficients = put_figures(line, materials, b'a', &f.coefficient);
-    let limits = put_rhs(line, coefficients, &f.rhs);
+fn show_accepted(line: &mut [u8], f: Figures) -> usize {
+    let sized = show_sizes(line, f);
+    let materials = show_materials(line, sized, f);
+    let coefficients = show_figures(line, materials, b'a', &f.coefficient);
+    let limits = show_rhs(line, coefficients, &f.rhs);
     put_byte(line, limits, b'\n')
 }
 
 // The line of a reading. That of a refused sheet is its listing's.
-fn put_reading(line: &mut [u8], reading: Reading) -> usize {
+fn show_reading(line: &mut [u8], reading: Reading) -> usize {
     let verdict = reading.verdict;
     match verdict {
-        Verdict::Passed => put_accepted(line, reading.figures),
+        Verdict::Passed => show_accepted(line, reading.figures),
         Verdict::Refused(refusal) => put_refusal(line, refusal),
     }
 }
@@ -114,7 +114,7 @@ fn put_reading(line: &mut [u8], reading: Reading) -> usize {
 // Prints the line of a sheet.
 fn print_sheet(sheet: &[u8]) {
     let mut line = [0u8; ROOM];
-    let end = put_reading(&mut line, sheet_read::read_sheet(sheet));
+    let end = show_reading(&mut line, sheet_read::read_sheet(sheet));
     write_line(&line, end);
 }
 

@@ -12,7 +12,7 @@ use Rattle.rules.specs.Record.{limitsAt, lowAt, gapAt, sumsAt, multipliersAt, t
 use Rattle.rules.specs.Listing.{text, line, lines, planText}
 use Rattle.out_layout.specs.RecordSizes.{RecordSizes}
 use Rattle.out_lines.specs.Lines.{lineOf}
-use Rattle.out_values.specs.ValueLines.{stepsLine}
+use Rattle.out_values.specs.StepsLine.{stepsLine}
 use Rattle.out_rows.specs.RecordLines.{materialLine, limitLine}
 
 -- bytes that begin with a record of n materials and m limits

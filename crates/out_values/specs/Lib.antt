@@ -1,3 +1,3 @@
 -- Lines of single figures of a record.
---   ValueLines   the line of the step count
-pub mod ValueLines
+--   StepsLine   the line of the step count, out of the bytes of a record
+pub mod StepsLine

@@ -6,7 +6,7 @@ ghost use Rattle.rules.specs.Record.{stepsAt};
 ghost use Rattle.bytes_read.specs.Inside.{Inside};
 ghost use Rattle.out_text.specs.Text.{Puts};
 ghost use Rattle.out_lines.specs.Lines.{lineOf};
-ghost use Rattle.out_values.specs.ValueLines.{stepsLine};
+ghost use Rattle.out_values.specs.StepsLine.{stepsLine};
 use bytes_read::signed_at;
 use bytes_read::size_at;
 use out_layout::STEPS_AT;

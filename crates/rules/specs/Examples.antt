@@ -55,7 +55,7 @@ examples-hold = ((refl, refl, refl, refl), ((refl, refl, refl, refl), ((refl, re
 -- ---- more on the order of the refusals
 abbrev pub order : List Row
 order =
-    -- e above its bound, though the length fits: 2, not 5
+    -- e above its greatest, though the length fits: 2, not 5
     refusal-row (encode 1 0 1 1 1 (0 ∶ pos 1 ∷ 64 ∶ pos 1 ∷ 128 ∶ pos 1 ∷ 192 ∶ pos 1 ∷ [])) 42 Dimensions 0 "refused 2 0\n" ∷
     -- a byte too many and k = 0: 3, not 4
     refusal-row (encode 1 0 1 1 0 [] ++ (0 ∷ [])) 42 Length 0 "refused 3 0\n" ∷

@@ -30,7 +30,7 @@ module _ (P : Problem) where
   unfoldable pub costOf : (ℕ → ℤ) → ℤ
   costOf x = sumTo (P .materials) (λ j. P .cost j *ℤ x j)
 
-  -- what limit i bounds by b_i: Σ_j a_ij·x_j
+  -- what limit i keeps at b_i or below: Σ_j a_ij·x_j
   unfoldable pub loadOf : (ℕ → ℤ) → ℕ → ℤ
   loadOf x i = sumTo (P .materials) (λ j. P .coefficient i j *ℤ x j)
 

@@ -14,20 +14,20 @@ use Rattle.run_sums.specs.SumsFit.{SumFits}
 abbrev pub withoutRhs : (n m D : ℕ) → (c l u a : List ℤ) → Problem
 withoutRhs n m D c l u a = problemIn n m 0 D c l u a []
 
--- the reduced cost of material j
-pub record AmountFits (P : Problem) (M : ℕ → ℤ) (j : ℕ) : Type 0 where
+-- the reduced cost of material j, at a cost c and a column a of coefficients
+pub record ReducedCostFits (m D : ℕ) (c : ℤ) (a M : ℕ → ℤ) (j : ℕ) : Type 0 where
   pub inside : j < 32
-  pub few : P .limits ≤ 16
-  pub scale : P .scale ≤ 1024
-  pub scaled-cost : SFits w64 (pos (P .scale) *ℤ P .cost j)
-  pub reduced : SumFits w64 (pos (P .scale) *ℤ P .cost j) (λ i. M i *ℤ P .coefficient i j) (P .limits)
+  pub few : m ≤ 16
+  pub scale : D ≤ 1024
+  pub scaled-cost : SFits w64 (pos D *ℤ c)
+  pub reduced : SumFits w64 (pos D *ℤ c) (λ i. M i *ℤ a i) m
 
--- the reduced costs of all materials, and an array of zeros for the amounts
+-- that of material j of a problem
+abbrev pub AmountFits : Problem → (ℕ → ℤ) → ℕ → Type 0
+AmountFits P M j = ReducedCostFits (P .limits) (P .scale) (P .cost j) (λ i. P .coefficient i j) M j
+
+-- those of all materials, and an array of zeros for the amounts
 pub record AmountsFit (P : Problem) (M : ℕ → ℤ) (amounts : List ℤ) : Type 0 where
   pub empty : amounts ≡ replicate 32 (pos 0)
   pub narrow : P .materials ≤ 32
-  pub few : P .limits ≤ 16
-  pub scale : P .scale ≤ 1024
-  pub scaled-cost : (j : ℕ) → j < P .materials → SFits w64 (pos (P .scale) *ℤ P .cost j)
-  pub reduced : (j : ℕ) → j < P .materials
-      → SumFits w64 (pos (P .scale) *ℤ P .cost j) (λ i. M i *ℤ P .coefficient i j) (P .limits)
+  pub each : (j : ℕ) → j < P .materials → AmountFits P M j

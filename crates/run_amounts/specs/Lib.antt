@@ -1,3 +1,3 @@
--- What the step amounts ask.
---   Amounts   the problems that have the lent figures; every term, part of a sum and result fits its width
+-- What the functions ask that work out step amounts.
+--   Amounts   the problem that has the lent figures, and that every term, part of a sum and result fits its width
 pub mod Amounts

@@ -7,7 +7,7 @@ ghost use Rattle.run_amounts.specs.Amounts.{withoutRhs, AmountFits, Amou
 use run_ends::end_by;
 use run_sums::dot_column_64;
 
-// The amount of material j.
+// The amount of material j. How many materials there are plays no part in it: the contract says 0.
 fn amount_at<'a>(
     j: usize,
     m: usize,
@@ -18,7 +18,8 @@ fn amount_at<'a>(
     coefficient: &'a [i16; 512],
     multipliers: &'a [i32; 16],
 ) -> i16
-    requires { ⌜ AmountFits (withoutRhs 0 m scale (now cost) (now least) (now most) (now coefficient)) (at (now multipliers)) j ⌝ }
+    requires { ⌜ AmountFits (withoutRhs 0 m scale (now cost) (now least) (now most) (now coefficient))
+        (at (now multipliers)) j ⌝ }
     ensures { λ r. ⌜ r ≡ amount
         (withoutRhs 0 m scale (now (cost .entry)) (now (least .entry)) (now (most .entry)) (now (coefficient .entry)))
         (at (now (multipliers .entry))) j ⌝ }
@@ -40,7 +41,8 @@ pub fn choose_amounts<'a>(
     multipliers: &'a [i32; 16],
     amounts: &'a mut [i16; 32],
 )
-    requires { ⌜ AmountsFit (withoutRhs n m scale (now cost) (now least) (now most) (now coefficient)) (at (now multipliers)) (now amounts) ⌝ }
+    requires { ⌜ AmountsFit (withoutRhs n m scale (now cost) (now least) (now most) (now coefficient))
+        (at (now multipliers)) (now amounts) ⌝ }
     ensures { λ _. ⌜ now (amounts .exit) ≡ padded 32 (tabulate n (amount
         (withoutRhs n m scale (now (cost .entry)) (now (least .entry)) (now (most .entry)) (now (coefficient .entry)))
         (at (now (multipliers .entry))))) ⌝ }

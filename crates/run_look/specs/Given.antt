@@ -1,4 +1,4 @@
--- The problems that have the figures which a function is lent and no others; and a look in arrays.
+-- The problem that has the limits' figures and no others; and a look in arrays.
 use mathlib.Core.Path.{_≡_}
 use mathlib.Core.List.{List, []}
 use Prim.Native.Nat.{ℕ}

@@ -40,10 +40,16 @@ module _ (f : Figures) {k : ℕ} (accepted : Accepted (problemOf f) k) (t : ℕ)
   amounts-fit = record {
     empty = refl;
     narrow = accepted .materials-few;
-    few = accepted .limits-few;
-    scale = accepted .scale-small;
-    scaled-cost = λ j l. large .step .scaled-cost j l .fits;
-    reduced = λ j l. record { one = λ i h. large .step .reduced-term i j h l .fits; part = λ i h. large .step .reduced-part i j h l .fits };
+    each = λ j l. record {
+      inside = lt-of-lt-of-le l (accepted .materials-few);
+      few = accepted .limits-few;
+      scale = accepted .scale-small;
+      scaled-cost = large .step .scaled-cost j l .fits;
+      reduced = record {
+        one = λ i h. large .step .reduced-term i j h l .fits;
+        part = λ i h. large .step .reduced-part i j h l .fits;
+      };
+    };
   }
 
   residuals-fit : ResidualsFit P (amounts P t) (replicate 16 (pos 0))
@@ -75,14 +81,7 @@ module _ (f : Figures) {k : ℕ} (accepted : Accepted (problemOf f) k) (t : ℕ)
   look-fits =
       let cost = cost-fits accepted (amounts P t) (large .step .step-cost) in
       record {
-        amounts-fit = record {
-          empty = amounts-fit .empty;
-          narrow = amounts-fit .narrow;
-          few = amounts-fit .few;
-          scale = amounts-fit .scale;
-          scaled-cost = amounts-fit .scaled-cost;
-          reduced = amounts-fit .reduced;
-        };
+        amounts-fit = record { empty = amounts-fit .empty; narrow = amounts-fit .narrow; each = amounts-fit .each };
         residuals-fit = record {
           empty = residuals-fit .empty;
           narrow = residuals-fit .narrow;

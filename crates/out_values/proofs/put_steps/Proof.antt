@@ -10,7 +10,7 @@ use mir.Facts.{toZ-pos}
 use Rattle.rules.specs.Listing.{text, line}
 use Rattle.out_text.specs.Growing.{puts-as}
 use Rattle.out_lines.specs.Lines.{lineOf}
-use Rattle.out_values.specs.ValueLines.{stepsLine}
+use Rattle.out_values.specs.StepsLine.{stepsLine}
 use Rattle.out_values.proofs.put_steps.Statement.{statement}
 use Rattle.out_values.proofs.put_steps.Tie as tie
 

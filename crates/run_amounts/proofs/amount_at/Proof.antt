@@ -22,7 +22,9 @@ module _ (s : tie.Start) where
   j = s .args .j
 
   abbrev P : Problem
-  P = withoutRhs 0 (s .args .m) (s .args .scale) (s .args .cost .now) (s .args .least .now) (s .args .most .now) (s .args .coefficient .now)
+  P =
+      withoutRhs 0 (s .args .m) (s .args .scale)
+      (s .args .cost .now) (s .args .least .now) (s .args .most .now) (s .args .coefficient .now)
 
   abbrev M : ℕ → ℤ
   M = at (s .args .multipliers .now)
@@ -49,11 +51,17 @@ module _ (s : tie.Start) where
 
 -- with the cost read
 module _ (c : tie.After-scaled) where
-  cost-fits : SFits w16 (P (c .before) .cost (j (c .before)))
+  abbrev start : tie.Start
+  start = c .before
+
+  abbrev cost : ℤ
+  cost = P start .cost (j start)
+
+  cost-fits : SFits w16 cost
   cost-fits = search needs
 
-  first-is : toZ w64 (ofZ w64 (toZ w64 (c .before .args .scale) *ℤ toZ w64 (ofZ w64 (toZ w16 (ofZ w16 (P (c .before) .cost (j (c .before)))))))) ≡ first (c .before)
-  first-is = simp (widened-is w64 tt cost-fits, scale-is (c .before), toZ-ofZ (c .before .pre .scaled-cost))
+  first-is : toZ w64 (ofZ w64 (toZ w64 (start .args .scale) *ℤ toZ w64 (ofZ w64 (toZ w16 (ofZ w16 cost))))) ≡ first start
+  first-is = simp (widened-is w64 tt cost-fits, scale-is start, toZ-ofZ (start .pre .scaled-cost))
 
 mul-scaled-2 : tie.Need-mul-scaled-2
 mul-scaled-2 c = simp (widened-is w64 tt (cost-fits c), scale-is (c .before)) (c .before .pre .scaled-cost)

@@ -32,8 +32,8 @@ module _ (c : tie.In-loop Inv-loop μ-loop) where
 
   abbrev P : Problem
   P =
-      withoutRhs (s .args .n) (s .args .m) (s .args .scale) (s .args .cost .now) (s .args .least .now) (s .args .most .now)
-      (s .args .coefficient .now)
+      withoutRhs (s .args .n) (s .args .m) (s .args .scale)
+      (s .args .cost .now) (s .args .least .now) (s .args .most .now) (s .args .coefficient .now)
 
   here : j < s .args .n
   here = omega arith
@@ -42,17 +42,13 @@ module _ (c : tie.In-loop Inv-loop μ-loop) where
   narrow = lt-of-lt-of-le here (s .pre .narrow)
 
 amount-at-requires : tie.Need-amount-at-requires Inv-loop μ-loop
-amount-at-requires c κs = record {
-  inside = narrow c;
-  few = s c .pre .few;
-  scale = s c .pre .scale;
-  scaled-cost = s c .pre .scaled-cost (j c) (here c);
-  reduced = s c .pre .reduced (j c) (here c);
-}
+amount-at-requires c κs = s c .pre .each (j c) (here c)
 
 -- with the amount
 module _ (c : tie.After-amount-at Inv-loop μ-loop) where
-  amount-is : toZ w16 (ofZ w16 (c .amount-at .result)) ≡ amount (P (c .before)) (at (s (c .before) .args .multipliers .now)) (j (c .before))
+  amount-is :
+      toZ w16 (ofZ w16 (c .amount-at .result))
+      ≡ amount (P (c .before)) (at (s (c .before) .args .multipliers .now)) (j (c .before))
   unfolding amount reducedCost
   amount-is =
       let fits : SFits w16 (c .amount-at .result) = search needs in

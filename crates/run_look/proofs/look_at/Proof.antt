@@ -37,14 +37,7 @@ module _ (s : tie.Start) where
 choose-amounts-requires : tie.Need-choose-amounts-requires
 choose-amounts-requires c κs =
     let fits = c .before .pre .amounts-fit in
-    record {
-      empty = fits .empty;
-      narrow = fits .narrow;
-      few = fits .few;
-      scale = fits .scale;
-      scaled-cost = fits .scaled-cost;
-      reduced = fits .reduced;
-    }
+    record { empty = fits .empty; narrow = fits .narrow; each = fits .each }
 
 module _ (c : tie.After-choose-amounts) where
   abbrev s : tie.Start
@@ -84,7 +77,7 @@ module _ (c : tie.After-take-residuals) where
 
   g-reads : at taken ≡ at (q (s at-x) .residuals)
   unfolding lookAt
-  g-reads = (λ k. at (g-is k)) ∙ at-padded 16 (q (s at-x) .residuals) (rw length-tabulate (s at-x .pre .amounts-fit .few))
+  g-reads = (λ k. at (g-is k)) ∙ at-padded 16 (q (s at-x) .residuals) (rw length-tabulate (s at-x .pre .residuals-fit .few))
 
 -- ---- the dual value
 scaled-cost-requires : tie.Need-scaled-cost-requires
@@ -112,7 +105,7 @@ dot-64-requires c κs =
     let a = c .before in
     rw (cost-is a)
     (record {
-      few = s-v a .pre .amounts-fit .few;
+      few = s-v a .pre .residuals-fit .few;
       sum =
           subst
           (λ (g : ℕ → ℤ). SumFits w64 (pos (P (s-v a) .scale) *ℤ costOf (P (s-v a)) (at (q (s-v a) .amounts))) (λ i. M (s-v a) i *ℤ g i) (P (s-v a) .limits))

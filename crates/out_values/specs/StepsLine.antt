@@ -1,4 +1,4 @@
--- The line of the step count, out of the bytes of a record.
+-- A line of the listing that has one figure of the record.
 use Prim.Native.Nat.{ℕ}
 use mathlib.Core.List.{List, [], _∷_}
 use lib.IntN.{pos}

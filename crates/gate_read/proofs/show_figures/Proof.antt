@@ -1,12 +1,12 @@
--- `gate_read::put_figures` meets its contract. The loop stays inside the array, and its figures fit 64 bits.
+-- `gate_read::show_figures` meets its contract. The loop stays inside the array, and its figures fit 64 bits.
 use mathlib.Core.Path.{_≡_}
 use Prim.Native.Nat.{_-_, _≤_}
 use borrow.Author.Needs.{needs}
 use lib.ListN.{length}
 use mir.Syntax.{w16}
 use Rattle.gate_read.proofs.Widened.{widened}
-use Rattle.gate_read.proofs.put_figures.Statement.{statement}
-use Rattle.gate_read.proofs.put_figures.Tie as tie
+use Rattle.gate_read.proofs.show_figures.Statement.{statement}
+use Rattle.gate_read.proofs.show_figures.Tie as tie
 
 abbrev Inv-loop : tie.InvT-loop
 Inv-loop line₀ at letter figures end₀ i₀ line end i = (i ≤ length figures) × (length line ≡ length line₀)
@@ -14,13 +14,13 @@ Inv-loop line₀ at letter figures end₀ i₀ line end i = (i ≤ length figure
 abbrev μ-loop : tie.MeasureT-loop
 μ-loop line₀ at letter figures end₀ i₀ line end i = length figures - i
 
-cast-put-figure : tie.Need-cast-put-figure Inv-loop μ-loop
-cast-put-figure c =
+cast-show-figure : tie.Need-cast-show-figure Inv-loop μ-loop
+cast-show-figure c =
     let turn = c .before .before .before in
-    widened w16 (turn .before .before .args .figures .now) (turn .loop .i) tt (c .put-figure-arg2 .given)
+    widened w16 (turn .before .before .args .figures .now) (turn .loop .i) tt (c .show-figure-arg2 .given)
 
-pub put-figures-spec : {M : Type 1} → statement M
-put-figures-spec =
+pub show-figures-spec : {M : Type 1} → statement M
+show-figures-spec =
     tie.close
     (tie.spec
     Inv-loop
@@ -28,7 +28,7 @@ put-figures-spec =
     (λ c. search needs)
     (λ c. search needs)
     (λ c. search needs)
-    cast-put-figure
+    cast-show-figure
     (λ c κs. search needs)
     (λ c. search needs)
     (λ c. search needs)
