@@ -1,6 +1,7 @@
 // batchplan: prints the listing of the batch sheet on standard input.
 //
-// It reads to the end of the input, or to one byte past the longest sheet, which is enough to know an overlong sheet for what it is.
+// It reads to the end of the input, or to one byte past the longest sheet, which is enough to know an overlong sheet for
+// what it is.
 // Where the input cannot be read, or the listing cannot be written, it says so on standard error.
 use batchplan_lib::batchplan_listing;
 use libc::STDERR_FILENO;

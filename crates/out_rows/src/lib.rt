@@ -42,7 +42,8 @@ fn put_limit(
     i: usize,
 ) -> usize
     requires { ⌜ LimitsInside (now «record») multipliers totals (suc i) ⌝ }
-    ensures { λ r. ⌜ Puts (limitLine (now («record» .entry)) multipliers totals i) (now (d .entry)) at (now (d .exit)) r ⌝ }
+    ensures { λ r. ⌜ Puts (limitLine (now («record» .entry)) multipliers totals i)
+        (now (d .entry)) at (now (d .exit)) r ⌝ }
 {
     let multiplier = signed_at(record, multipliers + 4 * i, 4);
     let total = signed_at(record, totals + 8 * i, 8);
@@ -60,7 +61,8 @@ pub fn put_limits(
     m: usize,
 ) -> usize
     requires { ⌜ LimitsInside (now «record») multipliers totals m ⌝ }
-    ensures { λ r. ⌜ Puts (lines m (limitLine (now («record» .entry)) multipliers totals)) (now (d .entry)) at (now (d .exit)) r ⌝ }
+    ensures { λ r. ⌜ Puts (lines m (limitLine (now («record» .entry)) multipliers totals))
+        (now (d .entry)) at (now (d .exit)) r ⌝ }
 {
     let mut end = at;
     let mut i: usize = 0;

@@ -29,4 +29,9 @@ dimensions n m e h =
     let narrow : n ≤ 32 = search (and-l, and-r, leb-yes) in
     let few : m ≤ 16 = search (and-l, and-r, leb-yes) in
     let most : e ≤ mostEntries n m = search (and-l, and-r, leb-yes) in
-    record { some-material = search (and-l, and-r, leb-yes); narrow = narrow; few = few; entries = le-trans most (few-entries narrow few) }
+    record {
+      some-material = search (and-l, and-r, leb-yes);
+      narrow = narrow;
+      few = few;
+      entries = le-trans most (few-entries narrow few);
+    }

@@ -1,6 +1,7 @@
 -- Points held against the statements of Problem and Margins, by computing with the definitions and with no theorem:
--- points that are feasible, points that miss it by one unit in one clause, what each claim of demand 3 says in numbers of any
--- low and gap, claims that a point refutes, and claims that hold. That all hold is proved in the crate `proof_margins`.
+-- points that are feasible, points that miss it by one unit in one clause, what each claim of demand 3 says in numbers
+-- of any low and gap, claims that a point refutes, and claims that hold. That all hold is proved in the crate
+-- `proof_margins`.
 use mathlib.Core.Path.{_≡_, refl}
 use mathlib.Core.List.{List, [], _∷_}
 use Prim.Native.Nat.{ℕ, zero, suc, _<_}
@@ -111,7 +112,7 @@ pub load-over-limit : Feasible P₁ (pos 2) (two (pos 3) (pos 17)) → ⊥
 unfolding Holds
 load-over-limit f = f .within 0 (lit< tt) .le
 
--- ---- C1, whose low is 104 and whose gap is −16: what the margins of a plan with any low and gap say at the two recipes
+-- ---- C1, with low 104 and gap −16: what the margins of a plan with any low and gap say at the two recipes
 pub margins-of-plan : (low gap : ℤ) → Margins (C1 .sheet) (plan low gap) → PlanMargins P₁ 4 low gap
 unfolding Holds Margins
 margins-of-plan low gap claim = claim
@@ -267,8 +268,9 @@ pub gap-13 : (low : ℤ) → PlanMargins P₄ 2 low (pos 13) → ⊥
 unfolding Holds
 gap-13 low claim = claim .squares .le
 
--- ---- C4 with p = 4, whose bound x ≤ 1 and limit −x ≤ −5 leave no feasible point. So the two claims over points ask nothing, and
--- the other two hold by computing, with gap 0: 4·5 ≤ 20, and 2·4·0 + 20² ≤ 4²·5². A claim that asks for more fails here
+-- ---- C4 with p = 4, whose bound x ≤ 1 and limit −x ≤ −5 leave no feasible point. So the two claims over points ask
+-- nothing, and the other two hold by computing, with gap 0: 4·5 ≤ 20, and 2·4·0 + 20² ≤ 4²·5². A claim that asks for
+-- more fails here
 abbrev pub P₅ : Problem
 P₅ = fromSheet (encode 1 1 4 1 1 (0 ∶ pos 1 ∷ 128 ∶ pos 1 ∷ 192 ∶ neg 1 ∷ 193 ∶ neg 5 ∷ []))
 

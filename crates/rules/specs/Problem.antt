@@ -1,4 +1,5 @@
--- Document 01, "The planner's task": materials at a cost within bounds, the limits on them, and the recipes that keep both.
+-- Document 01, "The planner's task": materials at a cost within bounds, the limits on them, and the recipes that keep
+-- both.
 use Prim.Native.Nat.{ℕ, _<_}
 use lib.IntN.{ℤ, pos, _*ℤ_}
 use lib.Signed.{_≤ℤ_, _<ℤ_}
@@ -34,7 +35,8 @@ module _ (P : Problem) where
   unfoldable pub loadOf : (ℕ → ℤ) → ℕ → ℤ
   loadOf x i = sumTo (P .materials) (λ j. P .coefficient i j *ℤ x j)
 
--- A feasible point ("lawful recipe"): whole amounts y over the positive divisor d, with l_j ≤ y_j/d ≤ u_j and Σ_j a_ij·y_j/d ≤ b_i, multiplied out.
+-- A feasible point ("lawful recipe"): whole amounts y over the positive divisor d, with l_j ≤ y_j/d ≤ u_j and
+-- Σ_j a_ij·y_j/d ≤ b_i, multiplied out.
 pub record Feasible (P : Problem) (d : ℤ) (y : ℕ → ℤ) : Type 0 where
   pub divisor : pos 0 <ℤ d
   pub above : (j : ℕ) → j < P .materials → (d *ℤ P .least j) ≤ℤ y j

@@ -9,7 +9,8 @@ use Rattle.out_rows.proofs.put_limits.Statement.{statement}
 use Rattle.out_rows.proofs.put_limits.Tie as tie
 
 abbrev Inv-loop : tie.InvT-loop
-Inv-loop d₀ at «record» multipliers totals m end₀ i₀ d end i = LinesPut (limitLine «record» multipliers totals) m d₀ at d end i
+Inv-loop d₀ at «record» multipliers totals m end₀ i₀ d end i =
+    LinesPut (limitLine «record» multipliers totals) m d₀ at d end i
 
 abbrev μ-loop : tie.MeasureT-loop
 μ-loop d₀ at «record» multipliers totals m end₀ i₀ d end i = m - i

@@ -60,7 +60,8 @@ module _ (c : tie.After-scaled) where
   cost-fits : SFits w16 cost
   cost-fits = search needs
 
-  first-is : toZ w64 (ofZ w64 (toZ w64 (start .args .scale) *ℤ toZ w64 (ofZ w64 (toZ w16 (ofZ w16 cost))))) ≡ first start
+  first-is :
+      toZ w64 (ofZ w64 (toZ w64 (start .args .scale) *ℤ toZ w64 (ofZ w64 (toZ w16 (ofZ w16 cost))))) ≡ first start
   first-is = simp (widened-is w64 tt cost-fits, scale-is start, toZ-ofZ (start .pre .scaled-cost))
 
 mul-scaled-2 : tie.Need-mul-scaled-2
