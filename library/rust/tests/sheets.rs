@@ -102,10 +102,10 @@ fn tried(sheet: &[u8], length: usize) -> Answer {
     assert_eq!(listing(sheet), text_of(&whole));
     match answer {
         Answer::Plan { low, gap } => {
-            let held = Plan::of_record(&record).unwrap();
-            let end = 22 + 4 * held.sums.len() + 12 * held.limits.len();
-            assert_eq!((held.low, held.gap), (low, gap));
-            assert_eq!(Ok(held), whole);
+            let recorded = Plan::of_record(&record).unwrap();
+            let end = 22 + 4 * recorded.sums.len() + 12 * recorded.limits.len();
+            assert_eq!((recorded.low, recorded.gap), (low, gap));
+            assert_eq!(Ok(recorded), whole);
             assert_eq!(record[end..], filled(length)[end..]);
         }
         Answer::Refused(refusal) => {
