@@ -7,7 +7,7 @@ use native.Mathlib.Omega.{arith}
 use lib.IntN.{ℤ, pos, negsuc}
 use lib.ListN.{length, length-append}
 use lib.Signed.{mag}
-use Rattle.rules.specs.Bytes.{unsignedBytes, signedBytes}
+use Rattle.rules.specs.Bytes.{unsignedBytes, signedBytes, laid}
 use Rattle.rules.specs.Record.{fields}
 
 -- an unsigned number asks for room
@@ -39,6 +39,6 @@ length-signed w (negsuc v) = length-unsigned w (256 ^ w - suc v)
 
 -- figures of w bytes each
 pub length-fields : (w : ℕ) (zs : List ℤ) → length (fields w zs) ≡ w * length zs
-unfolding fields
+unfolding laid
 length-fields w [] = sym (mul-zero w)
 length-fields w (z ∷ zs) = rw (length-append, length-signed, length-fields w zs, mul-suc) (omega arith)

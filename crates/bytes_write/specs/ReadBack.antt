@@ -9,7 +9,7 @@ use lib.ListN.{length, drop}
 use lib.Seq.{drop-drop, drop-at}
 use lib.Signed.{mag}
 use Rattle.rules.specs.Notation.{tabulate, at}
-use Rattle.rules.specs.Bytes.{unsignedAt, signedAt, unsignedBytes, signedBytes}
+use Rattle.rules.specs.Bytes.{unsignedAt, signedAt, unsignedBytes, signedBytes, laid}
 use Rattle.rules.specs.Record.{fields}
 use Rattle.bytes_read.specs.Width.{unsigned-start, signed-lower, signed-upper}
 use Rattle.bytes_write.specs.Number.{length-signed}
@@ -59,7 +59,7 @@ module _ {r : List ℕ} {a : ℕ} {parts : List (List ℕ)} (w : ℕ) where
 figures-from : {r : List ℕ} {a : ℕ} {parts : List (List ℕ)} (w : ℕ) (zs : List ℤ) → From r a (fields w zs ∷ parts)
     → ((i : ℕ) → i < length zs → mag (at zs i) < 256 ^ w / 2)
     → tabulate (length zs) (λ i. signedAt w r (a + w * i)) ≡ zs
-unfolding flatten tabulate fields
+unfolding flatten tabulate laid
 figures-from w [] f h = refl
 figures-from {r} {a} {parts} w (z ∷ zs) f h =
     let first : From r a (signedBytes w z ∷ fields w zs ∷ parts) =

@@ -94,19 +94,19 @@ fn show_materials(line: &mut [u8], at: usize, f: Figures) -> usize {
 }
 
 // The line of an accepted sheet.
-fn show_accepted(line: &mut [u8], f: Figures) -> usize {
+fn show_accepted(line: &mut [u8], f: Figures, coefficient: &[i16; 512]) -> usize {
     let sized = show_sizes(line, f);
     let materials = show_materials(line, sized, f);
-    let coefficients = show_figures(line, materials, b'a', &f.coefficient);
+    let coefficients = show_figures(line, materials, b'a', coefficient);
     let limits = show_rhs(line, coefficients, &f.rhs);
     put_byte(line, limits, b'\n')
 }
 
 // The line of a reading. That of a refused sheet is its listing's.
-fn show_reading(line: &mut [u8], reading: Reading) -> usize {
+fn show_reading(line: &mut [u8], reading: Reading, coefficient: &[i16; 512]) -> usize {
     let verdict = reading.verdict;
     match verdict {
-        Verdict::Passed => show_accepted(line, reading.figures),
+        Verdict::Passed => show_accepted(line, reading.figures, coefficient),
         Verdict::Refused(refusal) => put_refusal(line, refusal),
     }
 }
@@ -114,7 +114,9 @@ fn show_reading(line: &mut [u8], reading: Reading) -> usize {
 // Prints the line of a sheet.
 fn print_sheet(sheet: &[u8]) {
     let mut line = [0u8; ROOM];
-    let end = show_reading(&mut line, sheet_read::read_sheet(sheet));
+    let mut coefficient: [i16; 512] = [0; 512];
+    let reading = sheet_read::read_sheet(sheet, &mut coefficient);
+    let end = show_reading(&mut line, reading, &coefficient);
     write_line(&line, end);
 }
 

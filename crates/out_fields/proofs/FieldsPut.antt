@@ -9,7 +9,7 @@ use lib.IntN.{ℤ}
 use lib.ListN.{length}
 use lib.Signed.{mag}
 use Rattle.rules.specs.Notation.{tabulate, at}
-use Rattle.rules.specs.Bytes.{signedBytes}
+use Rattle.rules.specs.Bytes.{signedBytes, laid}
 use Rattle.rules.specs.Record.{fields}
 use Rattle.bytes_write.specs.Written.{written, writtenAt, written-none, Filled, fill}
 use Rattle.bytes_write.specs.Number.{SignedRoom, length-signed}
@@ -17,7 +17,7 @@ use Rattle.out_fields.specs.Fields.{firstFields, length-first, FieldsRoo
 
 -- one figure more
 one-more : (w n : ℕ) (f : ℕ → ℤ) → fields w (tabulate n f) ++ signedBytes w (f n) ≡ fields w (tabulate (suc n) f)
-unfolding fields tabulate
+unfolding laid tabulate
 one-more w zero f = sym (append-nil (signedBytes w (f 0)))
 one-more w (suc n) f = rw (append-assoc, one-more w n (λ i. f (suc i)))
 
@@ -29,7 +29,7 @@ pub record FieldsPut (w count : ℕ) (figures : List ℤ) (d₀ d : List ℕ) (i
 
 -- before the first turn none is
 pub no-field : {w count : ℕ} {figures : List ℤ} {d : List ℕ} → FieldsPut w count figures d d 0
-unfolding fields tabulate
+unfolding laid tabulate
 no-field {d = d} = record { within = omega arith; long = refl; is = written-none d }
 
 -- there is room for figure i, which fits its bytes

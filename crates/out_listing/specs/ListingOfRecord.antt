@@ -5,12 +5,14 @@ use mathlib.Core.Option.{Option, none, some}
 use Prim.Native.Nat.{ℕ}
 use lib.ListN.{length, drop}
 use Rattle.rules.specs.declared.Answer.{Answer}
-use Rattle.rules.specs.Run.{planAfter}
+use Rattle.rules.specs.Sheet.{sheetOf}
+use Rattle.rules.specs.Run.{Plan, planAfter}
 use Rattle.rules.specs.Record.{recordLength}
-use Rattle.rules.specs.Refusals.{Numbered, refusalBeforeSteps}
-use Rattle.rules.specs.Answers.{refusal, planOf, outcome, outcomeOf, answer, bufferOf, bufferAfter}
+use Rattle.rules.specs.Refusals.{Numbered}
+use Rattle.rules.specs.Answers.{planOf, planRefusal, unlessRefused, outcome, answer, bufferOf, bufferAfter}
 use Rattle.rules.specs.Listing.{textOf, textFrom, listing}
 use Rattle.rules.specs.Promise.{Promise}
+use Rattle.proof_laws.specs.Answering.{refusal, outcomeOf, answer-is}
 use Rattle.proof_laws.specs.NotRefused.{otherwise-none}
 use Rattle.proof_magnitudes.specs.Accepted.{accepted}
 use Rattle.proof_magnitudes.specs.PlanFits.{plan-fits}
@@ -18,25 +20,27 @@ use Rattle.out_layout.specs.RecordSizes.{RecordSizes}
 use Rattle.out_record.specs.RoundTrip.{round-trip, holds-record}
 
 module _ (s lent : List ℕ) where
+  abbrev p : Plan
+  p = planOf (sheetOf s)
+
   -- where a refusal is met, and where none is
   by : (met : Option Numbered) → refusal s (length lent) ≡ met
-      → textFrom (outcomeOf (planOf s) met) (bufferOf (planOf s) lent (outcomeOf (planOf s) met))
-      ≡ textOf (planOf s) (outcomeOf (planOf s) met)
-  unfolding refusal refusalBeforeSteps planAfter planOf outcomeOf bufferOf textFrom textOf
+      → textFrom (outcomeOf p met) (bufferOf p lent (outcomeOf p met)) ≡ textOf p (outcomeOf p met)
+  unfolding refusal planRefusal planAfter planOf unlessRefused bufferOf textFrom textOf
   by (some r) e = refl
   by none e =
-      let (before, going) = otherwise-none _ _ e in
-      let a = accepted s (otherwise-none _ _ before .0) in
-      let fits = plan-fits a going in
-      let rest = drop (recordLength (planOf s .materials) (planOf s .limits)) lent in
-      let sizes : RecordSizes (planOf s .materials) (planOf s .limits) =
+      let (layout, later) = otherwise-none _ _ e in
+      let a = accepted s layout in
+      let fits = plan-fits a (otherwise-none _ _ later .1) in
+      let rest = drop (recordLength (p .materials) (p .limits)) lent in
+      let sizes : RecordSizes (p .materials) (p .limits) =
       record { materials = a .materials-few; limits = a .limits-few } in
       rw (holds-record fits sizes rest, round-trip fits rest)
 
   -- the law for every sheet and every buffer
   pub listing-of-record : textFrom (answer s (length lent)) (bufferAfter s lent) ≡ listing s (length lent)
-  unfolding answer bufferAfter listing
-  listing-of-record = by (refusal s (length lent)) refl
+  unfolding bufferAfter listing
+  listing-of-record = rw (answer-is s (length lent)) (by (refusal s (length lent)) refl)
 
 -- What a planned sheet's answer and record say is the listing of the sheet.
 pub listing-is : {s lent after : List ℕ} {result : Answer} {room : ℕ} → Promise s lent after result

@@ -1,42 +1,46 @@
 -- How planning ends: with a refusal and the buffer as lent, or with a plan and its record.
-use mathlib.Core.Path.{_≡_, sym, subst, transport, _∙_}
+use mathlib.Core.Path.{_≡_, sym, ap, subst, transport, _∙_}
 use mathlib.Core.List.{List, _++_}
 use mathlib.Core.Option.{Option, none, some}
-use Prim.Native.Nat.{ℕ}
+use Prim.Native.Nat.{ℕ, _≤_}
 use lib.IntN.{ℤ}
 use lib.ListN.{length, drop}
 use Rattle.rules.specs.Notation.{tabulate, at}
 use Rattle.rules.specs.declared.Answer.{Answer}
 use Rattle.rules.specs.declared.Refusal.{Refusal}
-use Rattle.rules.specs.Problem.{Problem}
+use Rattle.rules.specs.Problem.{Problem, costOf}
+use Rattle.rules.specs.Sheet.{sheetOf}
 use Rattle.rules.specs.Step as step
-use Rattle.rules.specs.Run.{Plan, stateAfter, planAfter}
+use Rattle.rules.specs.Run.{Plan, stateAfter, lowAfter, gapOf, planAfter}
 use Rattle.rules.specs.Record.{recordOf, recordLength}
 use Rattle.rules.specs.Refusals.{Numbered, numbered}
-use Rattle.rules.specs.Answers.{plan, refusal, planOf, outcome, outcomeOf, answer, bufferOf, bufferAfter}
+use Rattle.rules.specs.Answers.{plan, planOf, outcome, unlessRefused, bufferOf, bufferAfter}
 use Rattle.rules.specs.Margins.{Margins}
 use Rattle.rules.specs.Promise.{Promise}
+use Rattle.proof_laws.specs.Answering.{refusal, outcomeOf, answer-is}
 use Rattle.proof_laws.specs.Lengths.{multipliers-length, sums-length, totals-length}
 use Rattle.proof_margins.specs.Theorem.{margins}
 use Rattle.sheet_figures.specs.declared.Figures.{Figures}
 use Rattle.sheet_figures.specs.Padded.{tabulate-at}
 use Rattle.sheet_figures.specs.Figures.{problemOf}
+use Rattle.run_costs.specs.Costs.{costsOnly, GapFits}
+use Rattle.run_costs.specs.OfRun.{gap-fits}
 use Rattle.run_step.specs.declared.State.{State}
 use Rattle.run_step.specs.States.{stateIn}
 use Rattle.run_step.specs.Reads.{multipliers-read, sums-read, totals-read}
 use Rattle.run_step.specs.Reached.{Reached}
 use Rattle.out_record.specs.RecordParts.{planIn}
-use Rattle.planner.specs.Finish.{Ends}
+use Rattle.planner.specs.Finish.{Ends, planWith, WriteReady}
 
 -- a refusal leaves the buffer as lent
 pub ends-refused : {p : Plan} {met : Option Numbered} {lent : List ℕ} (r : Refusal) → met ≡ some (numbered r) → Ends p met lent lent (Answer.Refused r)
-unfolding outcome outcomeOf bufferOf
+unfolding outcome unlessRefused bufferOf
 ends-refused {p} {met} {lent} r m = record { answered = λ i. outcomeOf p (sym m i); buffer = λ i. bufferOf p lent (outcomeOf p (sym m i)) }
 
 -- a plan is followed in the buffer by the rest as lent
 pub ends-planned : {p : Plan} {lent left : List ℕ} {low gap : ℤ} → low ≡ p .low → gap ≡ p .gap
     → left ≡ recordOf p ++ drop (recordLength (p .materials) (p .limits)) lent → Ends p none lent left (Answer.Plan low gap)
-unfolding outcome outcomeOf bufferOf
+unfolding outcome unlessRefused bufferOf
 ends-planned l g b = record { answered = λ i. plan (l i) (g i); buffer = b }
 
 -- the same end, by another plan and another refusal that are equal
@@ -44,17 +48,24 @@ pub ends-same : {p q : Plan} {met first : Option Numbered} {lent left : List ℕ
 ends-same {lent = lent} {left = left} {r = r} e m h = transport (λ i. Ends (e i) (m i) lent left r) h
 
 -- ---- the plan that stands in the arrays after the last step
-module _ (f : Figures) {w : State} (reached : Reached f (f .steps) w) where
+module _ (f : Figures) (a : List ℤ) {w : State} (reached : Reached f a (f .steps) w) where
   abbrev P : Problem
-  P = problemOf f
+  P = problemOf f a
 
   abbrev last : step.State
   last = stateAfter P (f .steps)
 
-  sums-kept : tabulate (f .materials) (at (w .sums)) ≡ last .sums
+  low-is : w .low ≡ lowAfter P (f .steps)
+  unfolding stateIn lowAfter
+  low-is = λ i. reached .state i .low
+
+  sums-are : at (w .sums) ≡ at (last .sums)
   unfolding stateIn
+  sums-are = sums-read (reached .accepted) (f .steps) (λ k. reached .state k .sums)
+
+  sums-kept : tabulate (f .materials) (at (w .sums)) ≡ last .sums
   sums-kept =
-      (λ i. tabulate (f .materials) (sums-read (reached .accepted) (f .steps) (λ k. reached .state k .sums) i))
+      (λ i. tabulate (f .materials) (sums-are i))
       ∙ tabulate-at (f .materials) (last .sums) (sums-length P (f .steps))
 
   multipliers-kept : tabulate (f .limits) (at (w .multipliers)) ≡ last .multipliers
@@ -69,26 +80,37 @@ module _ (f : Figures) {w : State} (reached : Reached f (f .steps) w) where
       (λ i. tabulate (f .limits) (totals-read (reached .accepted) (f .steps) (λ k. reached .state k .totals) i))
       ∙ tabulate-at (f .limits) (last .residualTotals) (totals-length P (f .steps))
 
-  pub plan-in-arrays : {low gap : ℤ} → low ≡ planAfter P (f .steps) .low → gap ≡ planAfter P (f .steps) .gap
-      → planIn (record { materials = f .materials; limits = f .limits; steps = f .steps; low = low; gap = gap }) (w .sums) (w .multipliers) (w .totals)
-      ≡ planAfter P (f .steps)
-  unfolding planIn planAfter
-  plan-in-arrays l g = λ i. record {
+  pub plan-in-arrays : planWith f w ≡ planAfter P (f .steps)
+  unfolding planWith planIn planAfter gapOf costOf
+  plan-in-arrays = λ i. record {
     materials = f .materials;
     limits = f .limits;
     steps = f .steps;
-    low = l i;
-    gap = g i;
+    low = low-is i;
+    gap = gapOf P (f .steps) (low-is i) (sums-are i);
     sums = sums-kept i;
     multipliers = multipliers-kept i;
     residualTotals = totals-kept i;
   }
 
+  pub write-ready : {lent : List ℕ} → recordLength (f .materials) (f .limits) ≤ length lent → WriteReady f w lent
+  write-ready room = record {
+    gap =
+        transport
+        (λ k. GapFits (costsOnly (f .materials) (f .scale) (f .cost)) (f .steps) (sym low-is k) (sym sums-are k))
+        (gap-fits f a (reached .accepted) (f .steps) (reached .few) (reached .going));
+    few = reached .accepted .limits-few;
+    room = room;
+  }
+
 -- ---- the promise, from the end
-pub promised : {sheet lent left : List ℕ} {r : Answer} → Ends (planOf sheet) (refusal sheet (length lent)) lent left r → Promise sheet lent left r
-unfolding answer bufferAfter
-promised {sheet} {lent} e = record {
-  answered = e .answered;
-  buffer = e .buffer;
-  margins = subst (Margins sheet) (sym (e .answered)) (margins sheet (length lent));
-}
+pub promised : {sheet lent left : List ℕ} {r : Answer}
+    → Ends (planOf (sheetOf sheet)) (refusal sheet (length lent)) lent left r → Promise sheet lent left r
+unfolding bufferAfter
+promised {sheet} {lent} e =
+    let answered = e .answered ∙ sym (answer-is sheet (length lent)) in
+    record {
+      answered = answered;
+      buffer = e .buffer ∙ ap (bufferOf (planOf (sheetOf sheet)) lent) (sym (answer-is sheet (length lent)));
+      margins = subst (Margins sheet) (sym answered) (margins sheet (length lent));
+    }

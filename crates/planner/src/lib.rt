@@ -9,7 +9,7 @@ ghost use Rattle.rules.specs.Answers.{stepRefusal};
 ghost use Rattle.rules.specs.Promise.{Promise};
 ghost use Rattle.proof_magnitudes.specs.Accepted.{Accepted};
 ghost use Rattle.sheet_figures.specs.Figures.{problemOf};
-ghost use Rattle.planner.specs.Finish.{Ends, RunReady, WriteReady};
+ghost use Rattle.planner.specs.Finish.{Ends, RunReady, planWith, WriteReady};
 use out_layout::record_length;
 use out_record::Head;
 use out_record::write_record;
@@ -26,7 +26,7 @@ use sheet_read::read_sheet;
 // The record and the answer of a run that came to its end.
 fn write_plan(f: Figures, state: State, record: &mut [u8]) -> Answer
     requires { ⌜ WriteReady f state (now «record») ⌝ }
-    ensures { λ r. ⌜ Ends (planAfter (problemOf f) (f .steps)) none (now («record» .entry)) (now («record» .exit)) r ⌝ }
+    ensures { λ r. ⌜ Ends (planWith f state) none (now («record» .entry)) (now («record» .exit)) r ⌝ }
 {
     let low = state.low;
     let sums = state.sums;
@@ -45,11 +45,12 @@ fn write_plan(f: Figures, state: State, record: &mut [u8]) -> Answer
 }
 
 // The run of a sheet's figures, in a buffer that can take the record.
-fn plan_run(f: Figures, record: &mut [u8]) -> Answer
-    requires { ⌜ RunReady f (now «record») ⌝ }
-    ensures { λ r. ⌜ Ends (planAfter (problemOf f) (f .steps)) (stepRefusal (problemOf f) (f .steps)) (now («record» .entry)) (now («record» .exit)) r ⌝ }
+fn plan_run(f: Figures, coefficient: &[i16; 512], record: &mut [u8]) -> Answer
+    requires { ⌜ RunReady f (now coefficient) (now «record») ⌝ }
+    ensures { λ r. ⌜ Ends (planAfter (problemOf f (now (coefficient .entry))) (f .steps))
+        (stepRefusal (problemOf f (now (coefficient .entry))) (f .steps)) (now («record» .entry)) (now («record» .exit)) r ⌝ }
 {
-    let ran = run(f);
+    let ran = run(f, coefficient);
     let stop = ran.stop;
     match stop {
         Verdict::Refused(refusal) => Answer::Refused(refusal),
@@ -58,11 +59,11 @@ fn plan_run(f: Figures, record: &mut [u8]) -> Answer
 }
 
 // The plan of a sheet's figures, or refusals 8 to 10.
-fn plan_figures(f: Figures, record: &mut [u8]) -> Answer
-    requires { ⌜ Accepted (problemOf f) (f .steps) ⌝ }
-    ensures { λ r. ⌜ Ends (planAfter (problemOf f) (f .steps))
+fn plan_figures(f: Figures, coefficient: &[i16; 512], record: &mut [u8]) -> Answer
+    requires { ⌜ Accepted (problemOf f (now coefficient)) (f .steps) ⌝ }
+    ensures { λ r. ⌜ Ends (planAfter (problemOf f (now (coefficient .entry))) (f .steps))
         (refuse 8 (recordLength (f .materials) (f .limits)) (ltb (length (now («record» .entry))) (recordLength (f .materials) (f .limits)))
-        otherwise stepRefusal (problemOf f) (f .steps))
+        otherwise stepRefusal (problemOf f (now (coefficient .entry))) (f .steps))
         (now («record» .entry)) (now («record» .exit)) r ⌝ }
 {
     let wanted = record_length(f.materials, f.limits);
@@ -72,7 +73,7 @@ fn plan_figures(f: Figures, record: &mut [u8]) -> Answer
             cause: Cause::Buffer,
         });
     }
-    plan_run(f, record)
+    plan_run(f, coefficient, record)
 }
 
 // Plans a sheet: any bytes, into any buffer. The answer is a plan's low and gap, with its record at the start of the buffer, or a refusal, with the buffer as it was.
@@ -80,10 +81,11 @@ fn plan_figures(f: Figures, record: &mut [u8]) -> Answer
 pub fn plan(sheet: &[u8], record: &mut [u8]) -> Answer
     ensures { λ r. ⌜ Promise (now (sheet .entry)) (now («record» .entry)) (now («record» .exit)) r ⌝ }
 {
-    let reading = read_sheet(sheet);
+    let mut a: [i16; 512] = [0; 512];
+    let reading = read_sheet(sheet, &mut a);
     let verdict = reading.verdict;
     match verdict {
         Verdict::Refused(refusal) => Answer::Refused(refusal),
-        Verdict::Passed => plan_figures(reading.figures, record),
+        Verdict::Passed => plan_figures(reading.figures, &a, record),
     }
 }

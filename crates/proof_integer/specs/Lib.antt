@@ -7,6 +7,7 @@
 --   Range       bounds of |z|, `Bnd`, and whether z fits a signed width
 --   Sum         finite sums Σ_{j<n} f j, `sumTo`
 --   Vector      the list of a function's first n values, `tabulate`, and an element of a list, `at`
+--   Tabulated   an array: one place set, all places 0, and what is read past its end
 --   Examples    each technique in use: begin here
 -- Another crate writes `use Rattle.proof_integer.specs.Order.{≤ℤ-trans}`, and so for each file.
 -- `_≤ℤ_` and `_<ℤ_` bind tighter than `_+ℤ_`: put a sum in parentheses. A list `{-ℤ-mono}` opens a comment: put another name first.
@@ -18,4 +19,5 @@ pub mod Solve
 pub mod Range
 pub mod Sum
 pub mod Vector
+pub mod Tabulated
 pub mod Examples

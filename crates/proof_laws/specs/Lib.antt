@@ -1,15 +1,19 @@
 -- Laws of the definitions of `rules` that proofs use in place of their text.
---   Entries      row and column of a key, the kind of figure there, and what the tests of an entry say
+--   Read         what reading one thing gives
+--   Entries      row and column of a key, the kind of figure there, and what a good key says
 --   Sizes        the ranges of n, m and e
 --   Lengths      the lists of a state and of a look have n and m elements
 --   Below        what holds at every place below n
 --   NotRefused   what follows where nothing is refused
 --   FirstPlace   the chain of refusals and the first place, as code meets them
+--   Answering    the one refusal of a sheet's bytes, and the answer by it
 --   Agreeing     only the figures of the n materials and the m limits count
+pub mod Read
 pub mod Entries
 pub mod Sizes
 pub mod Lengths
 pub mod Below
 pub mod NotRefused
 pub mod FirstPlace
+pub mod Answering
 pub mod Agreeing

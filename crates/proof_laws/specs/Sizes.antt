@@ -1,4 +1,4 @@
--- The ranges of n, m and e, read off their test.
+-- The ranges of n, m and e, read off their test; and the length of the header.
 use mathlib.Core.Path.{_≡_}
 use mathlib.Core.Bool.{true}
 use Prim.Native.Nat.{ℕ, _+_, _*_, _≤_}
@@ -7,31 +7,42 @@ use native.Mathlib.Omega.{arith}
 use lib.Dec.{T}
 use lib.Ieee.Fits.{and-l, and-r}
 use mir.Facts.{leb-yes}
+use Rattle.rules.specs.declared.Shape.{Shape}
+use Rattle.rules.specs.Sheet.{headerLength}
 use Rattle.rules.specs.Ranges.{between, mostEntries, dimensionsInRange}
 
+-- the largest shape
+abbrev pub largest : Shape
+largest = record { materials = 32; limits = 16 }
+
 -- where n and m lie in their ranges, few entries are allowed
-pub few-entries : {n m : ℕ} → n ≤ 32 → m ≤ 16 → mostEntries n m ≤ mostEntries 32 16
-few-entries {n} {m} narrow few =
-    let width : m + 3 ≤ 19 = omega arith in
-    let product : n * (m + 3) ≤ 32 * 19 = mul-le-mul narrow width in
+pub few-entries : {shape : Shape} → shape .materials ≤ 32 → shape .limits ≤ 16 → mostEntries shape ≤ mostEntries largest
+few-entries {shape} narrow few =
+    let width : shape .limits + 3 ≤ 19 = omega arith in
+    let product : shape .materials * (shape .limits + 3) ≤ 32 * 19 = mul-le-mul narrow width in
     omega arith
 
-pub record SizesInRange (n m e : ℕ) : Type 0 where
-  pub some-material : 1 ≤ n
-  pub narrow : n ≤ 32
-  pub few : m ≤ 16
-  pub entries : e ≤ mostEntries 32 16
+pub record SizesInRange (shape : Shape) (e : ℕ) : Type 0 where
+  pub some-material : 1 ≤ shape .materials
+  pub narrow : shape .materials ≤ 32
+  pub few : shape .limits ≤ 16
+  pub entries : e ≤ mostEntries largest
 
-pub dimensions : (n m e : ℕ) → dimensionsInRange n m e ≡ true → SizesInRange n m e
+pub dimensions : (shape : Shape) (e : ℕ) → dimensionsInRange shape e ≡ true → SizesInRange shape e
 unfolding dimensionsInRange between
-dimensions n m e h =
-    let t : T (dimensionsInRange n m e) = rw h tt in
-    let narrow : n ≤ 32 = search (and-l, and-r, leb-yes) in
-    let few : m ≤ 16 = search (and-l, and-r, leb-yes) in
-    let most : e ≤ mostEntries n m = search (and-l, and-r, leb-yes) in
+dimensions shape e h =
+    let t : T (dimensionsInRange shape e) = rw h tt in
+    let narrow : shape .materials ≤ 32 = search (and-l, and-r, leb-yes) in
+    let few : shape .limits ≤ 16 = search (and-l, and-r, leb-yes) in
+    let most : e ≤ mostEntries shape = search (and-l, and-r, leb-yes) in
     record {
       some-material = search (and-l, and-r, leb-yes);
       narrow = narrow;
       few = few;
       entries = le-trans most (few-entries narrow few);
     }
+
+-- a header is short, so that no place of a sheet wraps
+pub short-header : headerLength ≤ 64
+unfolding headerLength
+short-header = omega arith

@@ -4,26 +4,28 @@ use mathlib.Core.Path.{_≡_, refl}
 use mathlib.Core.Bool.{Bool, true, false, not, cond}
 use mathlib.Core.List.{List}
 use mathlib.Core.Option.{none}
-use Prim.Native.Nat.{ℕ, zero, suc, _+_, _*_, _<_, _≤_, zero-le}
+use Prim.Native.Nat.{ℕ, zero, suc, _+_, _<_, _≤_, zero-le}
 use native.Mathlib.Nat.{le-refl, le-step, le-of-lt, lt-suc-self}
 use native.Mathlib.Omega.{arith}
 use lib.Dec.{T, eqb}
-use lib.IntN.{ℤ, pos, natAbs}
+use lib.IntN.{ℤ, pos}
 use lib.Signed.{_≤ℤ_, leZ-yes, ltZ-no}
 use lib.Ieee.Fits.{and-l, and-r}
 use mir.Facts.{T-not-not, or-no, leb-yes, eqb-yes}
 use Rattle.proof_integer.specs.Order.{≤ℤ-trans}
 use Rattle.proof_integer.specs.Range.{Bnd, bnd-of, bnd-between}
-use Rattle.rules.specs.Notation.{neg}
+use Rattle.rules.specs.Notation.{neg, isZero}
 use Rattle.rules.specs.declared.Kind.{Kind}
 use Rattle.rules.specs.declared.Kind.the-variants.{Coefficient, Rhs}
 use Rattle.rules.specs.declared.Range.{Range}
+use Rattle.rules.specs.declared.Shape.{Shape}
 use Rattle.rules.specs.Problem.{Problem}
-use Rattle.rules.specs.Sheet.{Sheet, sheetOf, rowOf, columnOf, valueUnder, figure, problem}
+use Rattle.rules.specs.Sheet.{Sheet, sheetOf, keyOf, rowOf, columnOf, valueUnder, tableOf, problemFrom, problem}
 use Rattle.rules.specs.Ranges.{_from_to_, ranges, indexOf, rangeOf, kindAt, inRange, between, dimensionsInRange, parametersInRange}
 use Rattle.rules.specs.Run.{startingMultiplier}
 use Rattle.rules.specs.Refusals.{badValue, crossed, layoutRefusal}
 use Rattle.proof_laws.specs.Entries.{key-parts, coefficient-kind, rhs-kind}
+use Rattle.proof_laws.specs.Agreeing.{Agree}
 use Rattle.proof_laws.specs.NotRefused.{otherwise-none, refuse-none, first-none}
 
 -- The ranges of a problem and of its step count k.
@@ -50,10 +52,10 @@ pub record Accepted (P : Problem) (k : ℕ) : Type 0 where
 
 -- ---- the tests that the ranges follow from, each over the whole sheet
 record Passed (S : Sheet) : Type 0 where
-  dimensions : T (dimensionsInRange (S .materials) (S .limits) (S .entries))
-  parameters : T (parametersInRange (S .numerator) (S .scale) (S .steps))
+  dimensions : T (dimensionsInRange (S .sizes .shape) (S .entries))
+  parameters : T (parametersInRange (S .sizes))
   values : (i : ℕ) → i < S .entries → T (not (badValue S i))
-  bounds : (j : ℕ) → j < S .materials → T (not (crossed S j))
+  bounds : (j : ℕ) → j < S .sizes .shape .materials → T (not (crossed S j))
 
 -- the chain of refusals 1 to 7, link by link
 passed : (s : List ℕ) → layoutRefusal s ≡ none → Passed (sheetOf s)
@@ -75,19 +77,19 @@ passed s h =
 -- a test of several parts: each part, and the order that it stands for
 ruleset parts = (and-l, and-r, leb-yes, leZ-yes)
 
--- ---- ranges by row and column, with n materials
-abbrev rangeAt : ℕ → ℕ → ℕ → Range
-rangeAt n row column = rangeOf (kindAt n row column)
+-- ---- ranges by row and column
+abbrev rangeAt : Shape → ℕ → ℕ → Range
+rangeAt shape row column = rangeOf (kindAt shape row column)
 
 -- in the row of limit i
-module _ (n i : ℕ) where
-  coefficient-range : (j : ℕ) → j < n → rangeAt n (3 + i) j ≡ Coefficient from neg 1000 to pos 1000
+module _ (shape : Shape) (i : ℕ) where
+  coefficient-range : (j : ℕ) → j < shape .materials → rangeAt shape (3 + i) j ≡ Coefficient from neg 1000 to pos 1000
   unfolding rangeOf ranges indexOf
-  coefficient-range j l = rw (coefficient-kind n i j l)
+  coefficient-range j l = rw (coefficient-kind shape i j l)
 
-  rhs-range : rangeAt n (3 + i) n ≡ Rhs from neg 32000000 to pos 32000000
+  rhs-range : rangeAt shape (3 + i) (shape .materials) ≡ Rhs from neg 32000000 to pos 32000000
   unfolding rangeOf ranges indexOf
-  rhs-range = rw (rhs-kind n i)
+  rhs-range = rw (rhs-kind shape i)
 
 -- v lies in r
 record Within (r : Range) (v : ℤ) : Type 0 where
@@ -108,29 +110,40 @@ module _ (S : Sheet) (key : ℕ) (Q : ℤ → Type 0) (absent : Q (pos 0)) where
       last false here before = before
 
 module _ (S : Sheet) (h : Passed S) where
+  abbrev shape : Shape
+  shape = S .sizes .shape
+
+  abbrev n : ℕ
+  n = shape .materials
+
   -- the value of an entry lies in the range at its row and column
-  value-in : (i : ℕ) → i < S .entries → Within (rangeAt (S .materials) (rowOf (S .key i)) (columnOf (S .key i))) (S .value i)
+  value-in : (i : ℕ) → i < S .entries → Within (rangeAt shape (rowOf (S .key i)) (columnOf (S .key i))) (S .value i)
   unfolding badValue inRange
   value-in i l =
-      let r = rangeAt (S .materials) (rowOf (S .key i)) (columnOf (S .key i)) in
-      let (nonzero, good) = or-no (eqb (natAbs (S .value i)) 0) (not (inRange r (S .value i))) (h .values i l) in
+      let r = rangeAt shape (rowOf (S .key i)) (columnOf (S .key i)) in
+      let (nonzero, good) = or-no (isZero (S .value i)) (not (inRange r (S .value i))) (h .values i l) in
       search (T-not-not, parts)
 
-  module _ (row column : ℕ) (l : column ≤ S .materials) where
+  module _ (row column : ℕ) (l : column ≤ n) where
     -- every fact of a figure, by cases: 0, or a value in the range at its row and column
-    figure-cases : (Q : ℤ → Type 0) → Q (pos 0) → ((v : ℤ) → Within (rangeAt (S .materials) row column) v → Q v) → Q (figure S row column)
-    unfolding figure dimensionsInRange between
+    figure-cases : (Q : ℤ → Type 0) → Q (pos 0) → ((v : ℤ) → Within (rangeAt shape row column) v → Q v)
+        → Q (tableOf S (keyOf row column))
+    unfolding dimensionsInRange between
     figure-cases Q absent present =
-        let few : S .materials ≤ 32 = search parts in
+        let few : n ≤ 32 = search parts in
         let (row-back, column-back) = key-parts row column (omega arith) in
-        value-cases S (row * 64 + column) Q absent (S .entries) (λ i k e. present (S .value i) (rw (e, row-back, column-back) at (value-in i k)))
+        value-cases S (keyOf row column) Q absent (S .entries)
+        (λ i k e. present (S .value i) (rw (e, row-back, column-back) at (value-in i k)))
 
     -- a range from −a to a holds 0 too
-    figure-bnd : {kind : Kind} (a : ℕ) → rangeAt (S .materials) row column ≡ kind from neg a to pos a → Bnd (figure S row column) a
-    figure-bnd a e = figure-cases (λ v. Bnd v a) (bnd-of (pos 0) zero-le) (λ v w. let s = rw e at w in bnd-between (s .low) (s .high))
+    figure-bnd : {kind : Kind} (a : ℕ) → rangeAt shape row column ≡ kind from neg a to pos a
+        → Bnd (tableOf S (keyOf row column)) a
+    figure-bnd a e =
+        figure-cases (λ v. Bnd v a) (bnd-of (pos 0) zero-le)
+        (λ v w. let s = rw e at w in bnd-between (s .low) (s .high))
 
-  ranged : Accepted (problem S) (S .steps)
-  unfolding problem dimensionsInRange parametersInRange between kindAt rangeOf ranges indexOf crossed startingMultiplier
+  ranged : Accepted (problem S) (S .sizes .steps)
+  unfolding problemFrom dimensionsInRange parametersInRange between kindAt rangeOf ranges indexOf crossed startingMultiplier
   ranged = record {
     materials-some = search parts;
     materials-few = search parts;
@@ -145,12 +158,42 @@ module _ (S : Sheet) (h : Passed S) where
     least-sign = λ j l. figure-cases 1 j (le-of-lt l) (λ v. pos 0 ≤ℤ v) (leZ-yes tt) (λ v w. ≤ℤ-trans (leZ-yes tt) (w .low));
     ordered = λ j l. ltZ-no (h .bounds j l);
     most-in = λ j l. figure-cases 2 j (le-of-lt l) (λ v. v ≤ℤ pos 1000) (leZ-yes tt) (λ v w. w .high);
-    coefficient-in = λ i _ j l. figure-bnd (3 + i) j (le-of-lt l) 1000 (coefficient-range (S .materials) i j l);
-    rhs-in = λ i _. figure-bnd (3 + i) (S .materials) (le-refl _) 32000000 (rhs-range (S .materials) i);
+    coefficient-in = λ i _ j l. figure-bnd (3 + i) j (le-of-lt l) 1000 (coefficient-range shape i j l);
+    rhs-in = λ i _. figure-bnd (3 + i) n (le-refl _) 32000000 (rhs-range shape i);
     start-sign = λ i _. leZ-yes tt;
     start-top = λ i _. leZ-yes tt;
   }
 
 -- Where no refusal of the layout is given, the problem of the sheet and its step count lie in their ranges.
-pub accepted : (s : List ℕ) → layoutRefusal s ≡ none → Accepted (problem (sheetOf s)) (sheetOf s .steps)
+pub accepted : (s : List ℕ) → layoutRefusal s ≡ none → Accepted (problem (sheetOf s)) (sheetOf s .sizes .steps)
 accepted s h = ranged (sheetOf s) (passed s h)
+
+-- ---- problems that agree lie in the same ranges
+pub accepted-same : {P Q : Problem} {k : ℕ} → Agree P Q → Accepted Q k → Accepted P k
+unfolding startingMultiplier
+accepted-same {P} {Q} same a = record {
+  materials-some = rw (same .materials) (a .materials-some);
+  materials-few = rw (same .materials) (a .materials-few);
+  limits-few = rw (same .limits) (a .limits-few);
+  numerator-some = rw (same .numerator) (a .numerator-some);
+  numerator-small = rw (same .numerator) (a .numerator-small);
+  scale-some = rw (same .scale) (a .scale-some);
+  scale-small = rw (same .scale) (a .scale-small);
+  steps-some = a .steps-some;
+  steps-few = a .steps-few;
+  cost-in = λ j l. rw (same .cost j (material l)) (a .cost-in j (material l));
+  least-sign = λ j l. rw (same .least j (material l)) (a .least-sign j (material l));
+  ordered = λ j l. rw (same .least j (material l), same .most j (material l)) (a .ordered j (material l));
+  most-in = λ j l. rw (same .most j (material l)) (a .most-in j (material l));
+  coefficient-in = λ i h j l.
+      rw (same .coefficient i j (limit h) (material l)) (a .coefficient-in i (limit h) j (material l));
+  rhs-in = λ i h. rw (same .rhs i (limit h)) (a .rhs-in i (limit h));
+  start-sign = λ i h. a .start-sign i (limit h);
+  start-top = λ i h. a .start-top i (limit h);
+}
+  where
+    material : {j : ℕ} → j < P .materials → j < Q .materials
+    material l = rw (same .materials) at l
+
+    limit : {i : ℕ} → i < P .limits → i < Q .limits
+    limit h = rw (same .limits) at h

@@ -10,9 +10,9 @@ use Rattle.rules.specs.Problem.{Problem, NoneFeasible}
 use Rattle.rules.specs.Sheet.{sheetOf, problem}
 use Rattle.rules.specs.Step.{lookAt, infeasible}
 use Rattle.rules.specs.Run.{lookAfter}
-use Rattle.rules.specs.Refusals.{Numbered, refuse, _otherwise_, firstBelow, layoutRefusal, refusalBeforeSteps}
-use Rattle.rules.specs.Answers.{refusalAt, stepRefusal, refusal}
-use Rattle.proof_laws.specs.NotRefused.{otherwise-none}
+use Rattle.rules.specs.Refusals.{Numbered, refuse, _otherwise_, firstBelow, layoutRefusal}
+use Rattle.rules.specs.Answers.{refusalAt, stepRefusal, planRefusal}
+use Rattle.proof_laws.specs.Answering.{refusal}
 use Rattle.proof_magnitudes.specs.Accepted.{accepted}
 use Rattle.proof_margins.specs.WeakDuality.{none-feasible}
 use Rattle.proof_magnitudes.specs.Steps.{StartSign}
@@ -63,7 +63,9 @@ module _ (s : List ℕ) where
   layout-margins = search (otherwise-margins, first-margins, other-margins) depth 20
 
   pub refusal-margins : (room : ℕ) → RefusalMargins (problem (sheetOf s)) (refusal s room)
-  unfolding refusal refusalBeforeSteps
+  unfolding refusal planRefusal
   refusal-margins room =
-      otherwise-margins _ _ _ (otherwise-margins _ _ _ layout-margins (λ _. other-margins _ 8 _ _ tt))
-      (λ h. steps-margins _ (accepted s (otherwise-none _ _ h .0) .start-sign) (sheetOf s .steps))
+      otherwise-margins _ _ _ layout-margins
+      (λ h.
+      otherwise-margins _ _ _ (other-margins _ 8 _ _ tt)
+      (λ _. steps-margins _ (accepted s h .start-sign) (sheetOf s .sizes .steps)))

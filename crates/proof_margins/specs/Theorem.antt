@@ -5,9 +5,10 @@ use mathlib.Core.Option.{Option, none, some}
 use Prim.Native.Nat.{ℕ}
 use Rattle.rules.specs.Sheet.{sheetOf, problem}
 use Rattle.rules.specs.Run.{planAfter}
-use Rattle.rules.specs.Refusals.{Numbered, layoutRefusal, refusalBeforeSteps}
-use Rattle.rules.specs.Answers.{refusal, planOf, outcomeOf, answer}
+use Rattle.rules.specs.Refusals.{Numbered, layoutRefusal}
+use Rattle.rules.specs.Answers.{unlessRefused, planOf, answer}
 use Rattle.rules.specs.Margins.{Margins}
+use Rattle.proof_laws.specs.Answering.{refusal, outcomeOf, answer-is}
 use Rattle.proof_laws.specs.NotRefused.{otherwise-none}
 use Rattle.proof_magnitudes.specs.Accepted.{accepted}
 use Rattle.proof_margins.specs.Plans.{plan-margins}
@@ -16,17 +17,17 @@ use Rattle.proof_margins.specs.Infeasible.{RefusalMargins, refusal-margi
 module _ (sheet : List ℕ) (room : ℕ) where
   -- a sheet that is not refused follows the layout
   read : refusal sheet room ≡ none → layoutRefusal sheet ≡ none
-  unfolding refusal refusalBeforeSteps
-  read h = otherwise-none _ _ (otherwise-none _ _ h .0) .0
+  unfolding refusal
+  read h = otherwise-none _ _ h .0
 
   -- where there is a refusal, what is claimed of it; else the margins of the plan
   by-refusal : (r : Option Numbered) → refusal sheet room ≡ r → RefusalMargins (problem (sheetOf sheet)) r
-      → Margins sheet (outcomeOf (planOf sheet) r)
-  unfolding Margins outcomeOf planOf planAfter
+      → Margins sheet (outcomeOf (planOf (sheetOf sheet)) r)
+  unfolding Margins unlessRefused planOf planAfter
   by-refusal (some r) _ claim = claim
-  by-refusal none e _ = plan-margins (problem (sheetOf sheet)) (accepted sheet (read e) .start-sign) (sheetOf sheet .steps)
+  by-refusal none e _ = plan-margins (problem (sheetOf sheet)) (accepted sheet (read e) .start-sign) (sheetOf sheet .sizes .steps)
 
 -- Demand 3.
 pub margins : (sheet : List ℕ) (room : ℕ) → Margins sheet (answer sheet room)
-unfolding answer
-margins sheet room = by-refusal sheet room (refusal sheet room) refl (refusal-margins sheet room)
+margins sheet room =
+    rw (answer-is sheet room) (by-refusal sheet room (refusal sheet room) refl (refusal-margins sheet room))

@@ -4,13 +4,14 @@ use mathlib.Core.List.{List, _++_}
 use mathlib.Core.Option.{Option, none, some}
 use lib.ListN.{length, drop}
 use lib.IntN.{ℤ}
+use lib.Dec.{ltb}
 use Rattle.rules.specs.declared.Answer.{Answer}
 use Rattle.rules.specs.Problem.{Problem}
-use Rattle.rules.specs.Sheet.{sheetOf, problem}
+use Rattle.rules.specs.Sheet.{Sheet, sheetOf, problem}
 use Rattle.rules.specs.Step.{infeasible, diverged}
 use Rattle.rules.specs.Run.{Plan, stateAfter, lookAfter, planAfter}
 use Rattle.rules.specs.Record.{recordOf, recordLength}
-use Rattle.rules.specs.Refusals.{Numbered, numbered, refuse, _otherwise_, firstBelow, refusalBeforeSteps}
+use Rattle.rules.specs.Refusals.{Numbered, numbered, refuse, _otherwise_, firstBelow, layoutRefusal}
 
 -- To the caller, the answer is a plan's two figures or a refusal with number and place.
 pub data Outcome : Type 0 where
@@ -32,22 +33,30 @@ refusalAt P t =
 unfoldable pub stepRefusal : Problem → ℕ → Option Numbered
 stepRefusal P k = firstBelow k (refusalAt P)
 
--- the one refusal of a sheet, if any
-unfoldable pub refusal : List ℕ → ℕ → Option Numbered
-refusal s room = refusalBeforeSteps s room otherwise stepRefusal (problem (sheetOf s)) (sheetOf s .steps)
+-- a refusal where there is one, else this answer
+unfoldable pub unlessRefused : Option Numbered → Outcome → Outcome
+unlessRefused none a = a
+unlessRefused (some r) a = refused r
 
--- the plan of a sheet that is not refused
-unfoldable pub planOf : List ℕ → Plan
-planOf s = planAfter (problem (sheetOf s)) (sheetOf s .steps)
+-- Of a sheet that has been read and follows the layout:
+module _ (S : Sheet) where
+  -- its plan
+  unfoldable pub planOf : Plan
+  planOf = planAfter (problem S) (S .sizes .steps)
 
--- a refusal where there is one, else the plan's figures
-unfoldable pub outcomeOf : Plan → Option Numbered → Outcome
-outcomeOf p none = plan (p .low) (p .gap)
-outcomeOf p (some r) = refused r
+  -- refusal 8, of a record buffer of `room` bytes, and then those of the steps
+  unfoldable pub planRefusal : ℕ → Option Numbered
+  planRefusal room =
+      let wanted = recordLength (problem S .materials) (problem S .limits) in
+      refuse 8 wanted (ltb room wanted) otherwise stepRefusal (problem S) (S .sizes .steps)
+
+  -- the answer to it
+  unfoldable pub answerTo : ℕ → Outcome
+  answerTo room = unlessRefused (planRefusal room) (plan (planOf .low) (planOf .gap))
 
 -- The answer to a sheet's bytes and a record buffer of `room` bytes.
 unfoldable pub answer : List ℕ → ℕ → Outcome
-answer s room = outcomeOf (planOf s) (refusal s room)
+answer s room = unlessRefused (layoutRefusal s) (answerTo (sheetOf s) room)
 
 -- for a plan the record, then the rest as lent; for a refusal the buffer as lent
 unfoldable pub bufferOf : Plan → List ℕ → Outcome → List ℕ
@@ -56,4 +65,4 @@ bufferOf p lent (refused r) = lent
 
 -- The lent buffer afterwards.
 unfoldable pub bufferAfter : List ℕ → List ℕ → List ℕ
-bufferAfter s lent = bufferOf (planOf s) lent (answer s (length lent))
+bufferAfter s lent = bufferOf (planOf (sheetOf s)) lent (answer s (length lent))

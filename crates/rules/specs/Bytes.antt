@@ -1,7 +1,7 @@
 -- Document 01, "All figures are little-endian": numbers of w bytes, read and written. Signed ones are in two's complement.
 use Prim.Native.Nat.{ℕ, zero, suc, _+_, _-_, _*_, _/_, _%_, _^_}
 use mathlib.Core.Bool.{cond}
-use mathlib.Core.List.{List, [], _∷_}
+use mathlib.Core.List.{List, [], _∷_, _++_}
 use lib.ListN.{getD}
 use lib.IntN.{ℤ, pos, negsuc, _-ℤ_}
 use lib.Dec.{ltb}
@@ -28,3 +28,8 @@ unsignedBytes (suc w) v = v % 256 ∷ unsignedBytes w (v / 256)
 unfoldable pub signedBytes : ℕ → ℤ → List ℕ
 signedBytes w (pos v) = unsignedBytes w v
 signedBytes w (negsuc v) = unsignedBytes w (256 ^ w - suc v)
+
+-- numbers one after the other, each in its bytes
+unfoldable pub laid : {A : Type 0} → (A → List ℕ) → List A → List ℕ
+laid bytes [] = []
+laid bytes (x ∷ xs) = bytes x ++ laid bytes xs

@@ -14,12 +14,12 @@ use Rattle.rules.specs.declared.Range.{Range}
 use Rattle.rules.specs.declared.Cause.{Cause}
 use Rattle.rules.specs.declared.Cause.the-variants.{Short, Dimensions, Length, Parameters, Key, Value, Bounds, Buffer, Infeasible, Diverged}
 use Rattle.rules.specs.Bytes.{signedAt, unsignedBytes}
-use Rattle.rules.specs.Sheet.{sheetLength}
+use Rattle.rules.specs.Sheet.{headerLength, sheetLength}
 use Rattle.rules.specs.Ranges.{ranges, indexOf, rangeOf, mostEntries}
 use Rattle.rules.specs.Record.{recordLength, longestRecord}
 use Rattle.rules.specs.Refusals.{layoutRefusal}
 use Rattle.rules.specs.Listing.{text}
-use Rattle.rules.specs.Rows.{_∶_, sizes, encode, hex, Row, Holds, AllHold}
+use Rattle.rules.specs.Rows.{_∶_, header, encode, hex, Row, Holds, AllHold}
 use Rattle.rules.specs.Marked.{C1, C3, C7}
 
 -- a row for a refusal
@@ -35,7 +35,7 @@ examples =
     -- n = 33
     refusal-row (encode 33 0 1 1 1 []) 42 Dimensions 0 "refused 2 0\n" ∷
     -- e = 1, 12 bytes
-    refusal-row (sizes (1 ∷ 0 ∷ 1 ∷ 1 ∷ 1 ∷ 1 ∷ [])) 42 Length 0 "refused 3 0\n" ∷
+    refusal-row (header (1 ∷ 0 ∷ 1 ∷ 1 ∷ 1 ∷ 1 ∷ [])) 42 Length 0 "refused 3 0\n" ∷
     -- D = 0
     refusal-row (encode 1 0 1 0 1 []) 42 Parameters 0 "refused 4 0\n" ∷
     -- keys 1, 1 with n = 2
@@ -81,9 +81,9 @@ ends =
     refusal-row (encode 0 0 1 1 1 []) 42 Dimensions 0 "refused 2 0\n" ∷
     refusal-row (encode 1 17 1 1 1 []) 42 Dimensions 0 "refused 2 0\n" ∷
     -- both bytes of n, m and e count
-    refusal-row (sizes (257 ∷ 0 ∷ 0 ∷ 1 ∷ 1 ∷ 1 ∷ [])) 42 Dimensions 0 "refused 2 0\n" ∷
-    refusal-row (sizes (1 ∷ 256 ∷ 0 ∷ 1 ∷ 1 ∷ 1 ∷ [])) 42 Dimensions 0 "refused 2 0\n" ∷
-    refusal-row (sizes (1 ∷ 0 ∷ 256 ∷ 1 ∷ 1 ∷ 1 ∷ [])) 42 Dimensions 0 "refused 2 0\n" ∷
+    refusal-row (header (257 ∷ 0 ∷ 0 ∷ 1 ∷ 1 ∷ 1 ∷ [])) 42 Dimensions 0 "refused 2 0\n" ∷
+    refusal-row (header (1 ∷ 256 ∷ 0 ∷ 1 ∷ 1 ∷ 1 ∷ [])) 42 Dimensions 0 "refused 2 0\n" ∷
+    refusal-row (header (1 ∷ 0 ∷ 256 ∷ 1 ∷ 1 ∷ 1 ∷ [])) 42 Dimensions 0 "refused 2 0\n" ∷
     refusal-row (C7 .sheet ++ (0 ∷ [])) 42 Length 0 "refused 3 0\n" ∷
     refusal-row (encode 1 0 0 1 1 []) 42 Parameters 0 "refused 4 0\n" ∷
     refusal-row (encode 1 0 1025 1 1 []) 42 Parameters 0 "refused 4 0\n" ∷
@@ -138,8 +138,14 @@ pub largest-sizes : layoutRefusal (encode 32 16 1024 1024 4096 []) ≡ none
 unfolding Holds
 largest-sizes = refl
 
+-- the length of a sheet: 12 bytes, and 6 for each entry
+pub sheet-length : (e : ℕ) → sheetLength e ≡ 12 + 6 * e
+unfolding headerLength
+sheet-length e = omega arith
+
 -- the longest sheet has 3,756 bytes
-pub longest : sheetLength (mostEntries 32 16) ≡ 3756
+pub longest : sheetLength (mostEntries (record { materials = 32; limits = 16 })) ≡ 3756
+unfolding headerLength
 longest = refl
 
 -- every kind of figure stands in the table of ranges, so that nothing is read past its end, and the row there is its own

@@ -2,12 +2,13 @@
 --   Notation   −n, the larger of two, finite sums, lists by their places
 --   Problem    materials, costs, bounds and limits; feasible points
 --   Bytes      little-endian numbers of a width
---   Sheet      the layout of a batch sheet, and the figure at a row and a column
+--   Sheet      the layout of a batch sheet, and its figures by key
+--   Encoder    from sizes and a table of figures to the bytes of a sheet
 --   Ranges     the table of ranges, and the ranges of the sizes
 --   Step       one step of the method
 --   Run        k steps, and the plan that they give
 --   Record     the bytes of a plan, and the plan that such bytes hold
---   Refusals   the numbers of the refusals, and refusals 1 to 8
+--   Refusals   the numbers of the refusals, and refusals 1 to 7
 --   Answers    the answer to a sheet, and the lent buffer afterwards
 --   Listing    the text of an answer, and what writing it to lent bytes gives
 --   Margins    the statement of demand 3
@@ -23,6 +24,7 @@ pub mod Notation
 pub mod Problem
 pub mod Bytes
 pub mod Sheet
+pub mod Encoder
 pub mod Ranges
 pub mod Step
 pub mod Run

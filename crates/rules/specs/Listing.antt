@@ -9,6 +9,7 @@ use lib.ListN.{length, drop}
 use lib.IntN.{ℤ, pos, negsuc}
 use lib.Dec.{leb}
 use Rattle.rules.specs.Notation.{at}
+use Rattle.rules.specs.Sheet.{sheetOf}
 use Rattle.rules.specs.Run.{Plan}
 use Rattle.rules.specs.Record.{recorded, holdsRecord}
 use Rattle.rules.specs.Refusals.{Numbered}
@@ -65,7 +66,7 @@ textOf p (refused r) = refusalText r
 
 -- The listing of the answer to a sheet's bytes and a record buffer of `room` bytes.
 unfoldable pub listing : List ℕ → ℕ → List ℕ
-listing s room = textOf (planOf s) (answer s room)
+listing s room = textOf (planOf (sheetOf s)) (answer s room)
 
 -- The text of an answer and its record: of a plan what the record holds, and no text where its bytes hold no record.
 unfoldable pub textFrom : Outcome → List ℕ → List ℕ

@@ -31,5 +31,5 @@ pub record PlanMargins (P : Problem) (k : ℕ) (low gap : ℤ) : Type 0 where
 
 -- Demand 3: a plan has its margins; and where the answer is refusal 9 ("no blend"), whatever its place, there is no feasible point.
 unfoldable pub Margins : List ℕ → Outcome → Type 0
-Margins s (plan low gap) = PlanMargins (problem (sheetOf s)) (sheetOf s .steps) low gap
+Margins s (plan low gap) = PlanMargins (problem (sheetOf s)) (sheetOf s .sizes .steps) low gap
 Margins s (refused r) = r .number ≡ 9 → NoneFeasible (problem (sheetOf s))

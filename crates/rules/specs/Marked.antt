@@ -7,10 +7,11 @@ use Rattle.rules.specs.declared.Answer.the-variants.{Plan, Refused}
 use Rattle.rules.specs.declared.Cause.the-variants.{Bounds, Infeasible, Diverged}
 use Rattle.rules.specs.Problem.{Problem}
 use Rattle.rules.specs.Sheet.{sheetOf, problem}
+use Rattle.rules.specs.Encoder.{written}
 use Rattle.rules.specs.Step.{reducedCost, greatestCost, cheapestCost}
 use Rattle.rules.specs.Run.{stateAfter, lookAfter}
 use Rattle.rules.specs.Listing.{text}
-use Rattle.rules.specs.Rows.{Entry, _∶_, encode, hex, Row, Holds, AllHold}
+use Rattle.rules.specs.Rows.{Entry, _∶_, sized, entered, encode, hex, Row, Holds, AllHold}
 
 abbrev entries-C1 : List Entry
 entries-C1 = 0 ∶ pos 3 ∷ 1 ∶ pos 1 ∷ 128 ∶ pos 10 ∷ 129 ∶ pos 10 ∷ 192 ∶ neg 2 ∷ 193 ∶ neg 1 ∷ 194 ∶ neg 12 ∷ []
@@ -126,6 +127,22 @@ table = C1 ∷ C2 ∷ C3 ∷ C4 ∷ C5 ∷ C6 ∷ C7 ∷ C8 ∷ C9 ∷ C10 ∷ [
 pub marked : AllHold table
 unfolding Holds AllHold
 marked = ((refl, refl, refl, refl), ((refl, refl, refl, refl), ((refl, refl, refl, refl), ((refl, refl, refl, refl), ((refl, refl, refl, refl), ((refl, refl, refl, refl), ((refl, refl, refl, refl), ((refl, refl, refl, refl), ((refl, refl, refl, refl), ((refl, refl, refl, refl), tt))))))))))
+
+-- Their bytes are what is written of their sizes and tables; a table has no order, and a figure of 0 has no entry.
+pub encoded :
+    written (sized 2 1 1 8 4) (entered entries-C1) ∷
+    written (sized 2 1 1 8 1) (entered (194 ∶ neg 12 ∷ 64 ∶ pos 0 ∷ entries-C1)) ∷
+    written (sized 1 1 1 1 2) (entered entries-C3) ∷
+    written (sized 1 1 1 1 1) (entered entries-C3) ∷
+    written (sized 1 1 1024 1 1) (entered (193 ∶ neg 1048577 ∷ [])) ∷
+    written (sized 1 1 1024 1 1) (entered (193 ∶ neg 1048576 ∷ [])) ∷
+    written (sized 1 0 1 1 1) (entered []) ∷
+    written (sized 1 0 1 1 2) (entered (128 ∶ pos 3 ∷ 0 ∶ neg 2 ∷ [])) ∷
+    written (sized 1 0 1 1 1) (entered (128 ∶ pos 4 ∷ 64 ∶ pos 4 ∷ 0 ∶ pos 5 ∷ [])) ∷
+    written (sized 1 0 1 1 1) (entered (64 ∶ pos 4 ∷ 128 ∶ pos 3 ∷ [])) ∷ []
+    ≡ map (λ r. r .sheet) table
+unfolding Holds
+encoded = refl
 
 -- ---- what document 01 says of the steps of C1 and C3
 

@@ -1,14 +1,19 @@
--- Notation that the definitions share: −n, the larger of two integers, finite sums, and lists by their places.
+-- Notation that the definitions share: −n, the test for 0, the larger of two integers, finite sums, and lists by their places.
 use Prim.Native.Nat.{ℕ, zero, suc}
-use mathlib.Core.Bool.{cond}
+use mathlib.Core.Bool.{Bool, cond}
 use mathlib.Core.List.{List, [], _∷_}
 use lib.ListN.{getD}
-use lib.IntN.{ℤ, pos, negℤ, _+ℤ_}
+use lib.IntN.{ℤ, pos, natAbs, negℤ, _+ℤ_}
+use lib.Dec.{eqb}
 use lib.Signed.{leZ}
 
 -- −n
 abbrev pub neg : ℕ → ℤ
 neg n = negℤ (pos n)
+
+-- is it 0?
+unfoldable pub isZero : ℤ → Bool
+isZero x = eqb (natAbs x) 0
 
 -- the larger of two
 unfoldable pub maxℤ : ℤ → ℤ → ℤ

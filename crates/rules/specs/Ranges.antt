@@ -10,6 +10,8 @@ use Rattle.rules.specs.Notation.{neg}
 use Rattle.rules.specs.declared.Kind.{Kind}
 use Rattle.rules.specs.declared.Kind.the-variants.{Cost, Least, Most, Coefficient, Rhs}
 use Rattle.rules.specs.declared.Range.{Range}
+use Rattle.rules.specs.declared.Shape.{Shape}
+use Rattle.rules.specs.declared.Sizes.{Sizes}
 
 -- a row of the table: a kind of figure, its least and its greatest value
 infix 70 _from_to_
@@ -43,12 +45,12 @@ indexOf Rhs = 4
 unfoldable pub rangeOf : Kind → Range
 rangeOf kind = getD ranges (indexOf kind) (Cost from pos 0 to pos 0)
 
--- the row decides what a figure is: the kind at a row and a column, with n materials
-unfoldable pub kindAt : ℕ → ℕ → ℕ → Kind
-kindAt n zero column = Cost
-kindAt n (suc zero) column = Least
-kindAt n (suc (suc zero)) column = Most
-kindAt n (suc (suc (suc i))) column = cond (eqb column n) Rhs Coefficient
+-- the row decides what a figure is: the kind at a row and a column
+unfoldable pub kindAt : Shape → ℕ → ℕ → Kind
+kindAt shape zero column = Cost
+kindAt shape (suc zero) column = Least
+kindAt shape (suc (suc zero)) column = Most
+kindAt shape (suc (suc (suc i))) column = cond (eqb column (shape .materials)) Rhs Coefficient
 
 -- does a value lie in a range?
 unfoldable pub inRange : Range → ℤ → Bool
@@ -59,13 +61,14 @@ unfoldable pub between : ℕ → ℕ → ℕ → Bool
 between least greatest x = leb least x && leb x greatest
 
 -- the most entries that n and m allow: n(m+3)+m
-abbrev pub mostEntries : ℕ → ℕ → ℕ
-mostEntries n m = n * (m + 3) + m
+abbrev pub mostEntries : Shape → ℕ
+mostEntries shape = shape .materials * (shape .limits + 3) + shape .limits
 
 -- n is 1 to 32, m is 0 to 16, e is at most n(m+3)+m
-unfoldable pub dimensionsInRange : ℕ → ℕ → ℕ → Bool
-dimensionsInRange n m e = between 1 32 n && between 0 16 m && between 0 (mostEntries n m) e
+unfoldable pub dimensionsInRange : Shape → ℕ → Bool
+dimensionsInRange shape e =
+    between 1 32 (shape .materials) && between 0 16 (shape .limits) && between 0 (mostEntries shape) e
 
 -- p and D are 1 to 1,024; k is 1 to 4,096
-unfoldable pub parametersInRange : ℕ → ℕ → ℕ → Bool
-parametersInRange p D k = between 1 1024 p && between 1 1024 D && between 1 4096 k
+unfoldable pub parametersInRange : Sizes → Bool
+parametersInRange z = between 1 1024 (z .numerator) && between 1 1024 (z .scale) && between 1 4096 (z .steps)

@@ -1,18 +1,17 @@
 -- Document 01, "The record": the bytes of a plan, and the plan that such bytes hold.
 use Prim.Native.Nat.{ℕ, _+_, _*_}
 use mathlib.Core.Bool.{Bool, _&&_}
-use mathlib.Core.List.{List, [], _∷_, _++_}
+use mathlib.Core.List.{List, _++_}
 use lib.ListN.{length}
 use lib.IntN.{ℤ}
 use lib.Dec.{leb}
 use Rattle.rules.specs.Notation.{tabulate}
-use Rattle.rules.specs.Bytes.{unsignedAt, signedAt, unsignedBytes, signedBytes}
+use Rattle.rules.specs.Bytes.{unsignedAt, signedAt, unsignedBytes, signedBytes, laid}
 use Rattle.rules.specs.Run.{Plan}
 
 -- figures of w bytes each, signed
-unfoldable pub fields : ℕ → List ℤ → List ℕ
-fields w [] = []
-fields w (z ∷ zs) = signedBytes w z ++ fields w zs
+abbrev pub fields : ℕ → List ℤ → List ℕ
+fields w zs = laid (signedBytes w) zs
 
 -- n, m and k; low and gap; the sums; the multipliers and the residual totals
 unfoldable pub recordOf : Plan → List ℕ

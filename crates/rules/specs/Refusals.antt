@@ -1,19 +1,19 @@
--- Document 01, "When a sheet is turned back": the numbers of the refusals, and refusals 1 to 8.
+-- Document 01, "When a sheet is turned back": the numbers of the refusals, and refusals 1 to 7.
 use Prim.Native.Nat.{ℕ, zero, suc, _+_}
 use mathlib.Core.Bool.{Bool, true, false, not, _&&_, _||_}
 use mathlib.Core.List.{List}
 use mathlib.Core.Option.{Option, none, some}
 use lib.ListN.{length}
-use lib.IntN.{natAbs}
 use lib.Signed.{ltZ}
 use lib.Dec.{ltb, leb, eqb}
 use Rattle.rules.specs.declared.Cause.{Cause}
 use Rattle.rules.specs.declared.Cause.the-variants.{Short, Dimensions, Length, Parameters, Key, Value, Bounds, Buffer, Infeasible, Diverged}
 use Rattle.rules.specs.declared.Refusal.{Refusal}
 use Rattle.rules.specs.declared.Verdict.{Verdict}
-use Rattle.rules.specs.Sheet.{Sheet, sheetOf, sheetLength, rowOf, columnOf, figure}
+use Rattle.rules.specs.declared.Shape.{Shape}
+use Rattle.rules.specs.Notation.{isZero}
+use Rattle.rules.specs.Sheet.{Sheet, headerLength, sheetLength, sheetOf, keyOf, rowOf, columnOf, tableOf}
 use Rattle.rules.specs.Ranges.{rangeOf, kindAt, inRange, dimensionsInRange, parametersInRange}
-use Rattle.rules.specs.Record.{recordLength}
 
 -- A refusal as document 01 gives it: its number and its place.
 pub record Numbered : Type 0 where
@@ -58,10 +58,13 @@ unfoldable pub firstBelow : ℕ → (ℕ → Option Numbered) → Option Numbere
 firstBelow zero test = none
 firstBelow (suc n) test = firstBelow n test otherwise test n
 
--- does no figure stand at a row and a column, with n materials and m limits? Row above m+2, column above n, or column n in rows 0 to 2
-unfoldable pub noFigureAt : ℕ → ℕ → ℕ → ℕ → Bool
-noFigureAt n m row column = ltb (m + 2) row || ltb n column || (eqb column n && leb row 2)
+-- does no figure stand at a row and a column? Row above m+2, column above n, or column n in rows 0 to 2
+unfoldable pub noFigureAt : Shape → ℕ → ℕ → Bool
+noFigureAt shape row column =
+    let n = shape .materials in
+    ltb (shape .limits + 2) row || ltb n column || (eqb column n && leb row 2)
 
+-- Of a sheet that has been read:
 module _ (S : Sheet) where
   -- is the key of entry i not above the one before?
   unfoldable pub notAbove : ℕ → Bool
@@ -70,32 +73,26 @@ module _ (S : Sheet) where
 
   -- refusal 5: row above m+2, column above n, column n in rows 0 to 2, or key not above the one before
   unfoldable pub badKey : ℕ → Bool
-  badKey i = noFigureAt (S .materials) (S .limits) (rowOf (S .key i)) (columnOf (S .key i)) || notAbove i
+  badKey i = noFigureAt (S .sizes .shape) (rowOf (S .key i)) (columnOf (S .key i)) || notAbove i
 
   -- refusal 6: value 0 or outside its range
   unfoldable pub badValue : ℕ → Bool
   badValue i =
-      let kind = kindAt (S .materials) (rowOf (S .key i)) (columnOf (S .key i)) in
-      eqb (natAbs (S .value i)) 0 || not (inRange (rangeOf kind) (S .value i))
+      let kind = kindAt (S .sizes .shape) (rowOf (S .key i)) (columnOf (S .key i)) in
+      isZero (S .value i) || not (inRange (rangeOf kind) (S .value i))
 
   -- refusal 7: least above most
   unfoldable pub crossed : ℕ → Bool
-  crossed j = ltZ (figure S 2 j) (figure S 1 j)
+  crossed j = ltZ (tableOf S (keyOf 2 j)) (tableOf S (keyOf 1 j))
 
--- Refusals 1 to 7, in rising order, each over the whole sheet. A sheet follows the layout exactly when there is none.
+-- Refusals 1 to 7 of a sheet's bytes, in rising order, each over the whole sheet. A sheet follows the layout exactly when there is none.
 unfoldable pub layoutRefusal : List ℕ → Option Numbered
 layoutRefusal s =
     let S = sheetOf s in
-    refuse 1 0 (ltb (length s) 12)
-    otherwise refuse 2 0 (not (dimensionsInRange (S .materials) (S .limits) (S .entries)))
+    refuse 1 0 (ltb (length s) headerLength)
+    otherwise refuse 2 0 (not (dimensionsInRange (S .sizes .shape) (S .entries)))
     otherwise refuse 3 0 (not (eqb (length s) (sheetLength (S .entries))))
-    otherwise refuse 4 0 (not (parametersInRange (S .numerator) (S .scale) (S .steps)))
+    otherwise refuse 4 0 (not (parametersInRange (S .sizes)))
     otherwise firstBelow (S .entries) (λ i. refuse 5 i (badKey S i))
     otherwise firstBelow (S .entries) (λ i. refuse 6 i (badValue S i))
-    otherwise firstBelow (S .materials) (λ j. refuse 7 j (crossed S j))
-
--- Refusals 1 to 8, of a sheet's bytes and a record buffer of `room` bytes.
-unfoldable pub refusalBeforeSteps : List ℕ → ℕ → Option Numbered
-refusalBeforeSteps s room =
-    let wanted = recordLength (sheetOf s .materials) (sheetOf s .limits) in
-    layoutRefusal s otherwise refuse 8 wanted (ltb room wanted)
+    otherwise firstBelow (S .sizes .shape .materials) (λ j. refuse 7 j (crossed S j))

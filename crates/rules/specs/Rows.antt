@@ -5,19 +5,21 @@ use mathlib.Core.Path.{_≡_}
 use mathlib.Core.Bool.{cond}
 use mathlib.Core.List.{List, [], _∷_, _++_, map}
 use lib.ListN.{length, replicate, drop}
-use lib.IntN.{ℤ}
+use lib.IntN.{ℤ, pos}
 use lib.Dec.{ltb, eqb}
-use Rattle.rules.specs.Notation.{maxℤ, sumTo, tabulate}
+use Rattle.rules.specs.Notation.{isZero, maxℤ, sumTo, tabulate}
+use Rattle.rules.specs.declared.Sizes.{Sizes}
 use Rattle.rules.specs.declared.Answer.{Answer}
 use Rattle.rules.specs.Problem.{costOf, loadOf}
-use Rattle.rules.specs.Bytes.{unsignedAt, signedOf, signedAt, unsignedBytes, signedBytes}
-use Rattle.rules.specs.Sheet.{valueUnder, figure, problem}
+use Rattle.rules.specs.Bytes.{unsignedAt, signedOf, signedAt, unsignedBytes, signedBytes, laid}
+use Rattle.rules.specs.Sheet.{headerLength, Table, valueUnder, problemFrom}
+use Rattle.rules.specs.Encoder.{laidOut, sizesWith, picked, keysOf, written}
 use Rattle.rules.specs.Ranges.{ranges, indexOf, rangeOf, kindAt, inRange, between, dimensionsInRange, parametersInRange}
 use Rattle.rules.specs.Step.{anyBelow, reducedCost, amount, residual, dualValue, lookAt, greatestCost, cheapestCost, infeasible, moved, next, diverged}
 use Rattle.rules.specs.Run.{startingMultiplier, start, stateAfter, lookAfter, lowAfter, gapOf, planAfter}
-use Rattle.rules.specs.Record.{fields, recordOf, recordLength, recorded, holdsRecord}
-use Rattle.rules.specs.Refusals.{numberOf, numbered, refuse, _otherwise_, firstBelow, noFigureAt, notAbove, badKey, badValue, crossed, layoutRefusal, refusalBeforeSteps}
-use Rattle.rules.specs.Answers.{outcome, refusalAt, stepRefusal, refusal, planOf, outcomeOf, answer, bufferOf, bufferAfter}
+use Rattle.rules.specs.Record.{recordOf, recordLength, recorded, holdsRecord}
+use Rattle.rules.specs.Refusals.{numberOf, numbered, refuse, _otherwise_, firstBelow, noFigureAt, notAbove, badKey, badValue, crossed, layoutRefusal}
+use Rattle.rules.specs.Answers.{outcome, refusalAt, stepRefusal, unlessRefused, planOf, planRefusal, answerTo, answer, bufferOf, bufferAfter}
 use Rattle.rules.specs.Listing.{text, digits, decimal, spaced, line, lines, planText, refusalText, textOf, listing, textFrom}
 
 -- ---- how a row is written
@@ -31,15 +33,23 @@ pub record Entry : Type 0 where
 abbrev pub _∶_ : ℕ → ℤ → Entry
 key ∶ value = record { key = key; value = value }
 
--- numbers of 2 bytes
-unfoldable pub sizes : List ℕ → List ℕ
-sizes [] = []
-sizes (v ∷ vs) = unsignedBytes 2 v ++ sizes vs
+-- the sizes n, m, p, D and k
+abbrev pub sized : (n m p D k : ℕ) → Sizes
+sized n m p D k = record { shape = record { materials = n; limits = m }; numerator = p; scale = D; steps = k }
 
--- a sheet: the sizes n, m, e, p, D and k; the keys; the values
-unfoldable pub encode : (n m p D k : ℕ) → List Entry → List ℕ
+-- the table that has these entries, and 0 under every other key
+unfoldable pub entered : List Entry → Table
+entered [] key = pos 0
+entered (x ∷ xs) key = cond (eqb (x .key) key) (x .value) (entered xs key)
+
+-- sizes and no entry, with any e
+abbrev pub header : List ℕ → List ℕ
+header sizes = laidOut sizes [] []
+
+-- sizes and entries as they are given, in any order, with any keys and values
+abbrev pub encode : (n m p D k : ℕ) → List Entry → List ℕ
 encode n m p D k entries =
-    sizes (n ∷ m ∷ length entries ∷ p ∷ D ∷ k ∷ []) ++ sizes (map (λ x. x .key) entries) ++ fields 4 (map (λ x. x .value) entries)
+    laidOut (sizesWith (sized n m p D k) (length entries)) (map (λ x. x .key) entries) (map (λ x. x .value) entries)
 
 -- bytes in hexadecimal, with spaces between the fields
 unfoldable pub nibble : ℕ → ℕ
@@ -73,7 +83,7 @@ lent room = replicate room 170
 
 -- What the definitions give is what the row says: the answer, the buffer afterwards, the listing, and the listing out of answer and buffer. Whoever unfolds it computes with them all.
 unfoldable pub Holds : Row → Type 0
-unfolding sizes encode nibble unspaced pairs outcome numbered numberOf maxℤ sumTo tabulate costOf loadOf unsignedAt signedOf signedAt unsignedBytes signedBytes valueUnder figure problem ranges indexOf rangeOf kindAt inRange between dimensionsInRange parametersInRange anyBelow reducedCost amount residual dualValue lookAt greatestCost cheapestCost infeasible moved next diverged startingMultiplier start stateAfter lookAfter lowAfter gapOf planAfter fields recordOf recordLength recorded holdsRecord refuse _otherwise_ firstBelow noFigureAt notAbove badKey badValue crossed layoutRefusal refusalBeforeSteps refusalAt stepRefusal refusal planOf outcomeOf answer bufferOf bufferAfter text digits decimal spaced line lines planText refusalText textOf listing textFrom
+unfolding headerLength isZero laid laidOut picked keysOf written entered nibble unspaced pairs outcome numbered numberOf maxℤ sumTo tabulate costOf loadOf unsignedAt signedOf signedAt unsignedBytes signedBytes valueUnder problemFrom ranges indexOf rangeOf kindAt inRange between dimensionsInRange parametersInRange anyBelow reducedCost amount residual dualValue lookAt greatestCost cheapestCost infeasible moved next diverged startingMultiplier start stateAfter lookAfter lowAfter gapOf planAfter recordOf recordLength recorded holdsRecord refuse _otherwise_ firstBelow noFigureAt notAbove badKey badValue crossed layoutRefusal refusalAt stepRefusal unlessRefused planOf planRefusal answerTo answer bufferOf bufferAfter text digits decimal spaced line lines planText refusalText textOf listing textFrom
 Holds r =
     (answer (r .sheet) (r .room) ≡ outcome (r .answer)) ×
     (bufferAfter (r .sheet) (lent (r .room)) ≡ r .bytes ++ drop (length (r .bytes)) (lent (r .room))) ×

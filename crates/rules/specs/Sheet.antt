@@ -1,75 +1,102 @@
--- Document 01, "The batch sheet": the layout of a sheet's bytes, and the figures that it gives.
+-- Document 01, "The batch sheet": a sheet is sizes and a table of figures by key. Here from bytes to the figures; Encoder has the way back.
 use Prim.Native.Nat.{ℕ, zero, suc, _+_, _*_, _/_, _%_}
 use mathlib.Core.Bool.{cond}
 use mathlib.Core.List.{List}
 use lib.IntN.{ℤ, pos}
 use lib.Dec.{eqb}
+use Rattle.rules.specs.declared.Sizes.{Sizes}
 use Rattle.rules.specs.Bytes.{unsignedAt, signedAt}
 use Rattle.rules.specs.Problem.{Problem}
 
--- The six sizes, and the two parallel arrays: entry i has key i and value i.
+-- ---- the layout of the bytes
+
+-- how long the header is: the six sizes come first, 2 bytes each
+unfoldable pub headerLength : ℕ
+headerLength = 2 * 6
+
+-- size i of a sheet's bytes
+abbrev pub sizeAt : List ℕ → ℕ → ℕ
+sizeAt s i = unsignedAt 2 s (2 * i)
+
+-- where key i stands: e keys of 2 bytes follow the header
+abbrev pub keyAt : ℕ → ℕ
+keyAt i = headerLength + 2 * i
+
+-- where value i of e stands: e values of 4 bytes follow the keys
+abbrev pub valueAt : ℕ → ℕ → ℕ
+valueAt e i = keyAt e + 4 * i
+
+-- the length of a sheet of e entries: it ends after its values
+abbrev pub sheetLength : ℕ → ℕ
+sheetLength e = valueAt e e
+
+-- ---- a sheet that has been read
+
+-- The sizes n, m, p, D and k; e; and two parallel arrays: entry i has key i and value i.
 pub record Sheet : Type 0 where
-  -- n
-  pub materials : ℕ
-  -- m
-  pub limits : ℕ
+  pub sizes : Sizes
   -- e
   pub entries : ℕ
-  -- p, the step numerator
-  pub numerator : ℕ
-  -- D, the scale
-  pub scale : ℕ
-  -- k, the step count
-  pub steps : ℕ
   pub key : ℕ → ℕ
   pub value : ℕ → ℤ
 
--- The sizes come first, 2 bytes each; then e keys of 2 bytes; then e values of 4 bytes, signed.
+-- The sizes are n, m, e, p, D and k, in this order.
 abbrev pub sheetOf : List ℕ → Sheet
 sheetOf s =
-    let e = unsignedAt 2 s 4 in
     record {
-      materials = unsignedAt 2 s 0;
-      limits = unsignedAt 2 s 2;
-      entries = e;
-      numerator = unsignedAt 2 s 6;
-      scale = unsignedAt 2 s 8;
-      steps = unsignedAt 2 s 10;
-      key = λ i. unsignedAt 2 s (12 + 2 * i);
-      value = λ i. signedAt 4 s (12 + 2 * e + 4 * i);
+      sizes = record {
+        shape = record { materials = sizeAt s 0; limits = sizeAt s 1 };
+        numerator = sizeAt s 3;
+        scale = sizeAt s 4;
+        steps = sizeAt s 5;
+      };
+      entries = sizeAt s 2;
+      key = λ i. unsignedAt 2 s (keyAt i);
+      value = λ i. signedAt 4 s (valueAt (sizeAt s 2) i);
     }
 
--- the length of a sheet of e entries
-abbrev pub sheetLength : ℕ → ℕ
-sheetLength e = 12 + 6 * e
+-- ---- figures by key
 
 -- a key is row × 64 + column
+abbrev pub keyOf : ℕ → ℕ → ℕ
+keyOf row column = row * 64 + column
+
 abbrev pub rowOf : ℕ → ℕ
 rowOf key = key / 64
 
 abbrev pub columnOf : ℕ → ℕ
 columnOf key = key % 64
 
+-- a table: the figure under each key, 0 where there is none
+abbrev pub Table : Type 0
+Table = ℕ → ℤ
+
 module _ (S : Sheet) where
   -- the value of the entry with this key among the first e; 0 where there is none
-  unfoldable pub valueUnder : ℕ → ℕ → ℤ
+  unfoldable pub valueUnder : ℕ → Table
   valueUnder zero key = pos 0
   valueUnder (suc e) key = cond (eqb (S .key e) key) (S .value e) (valueUnder e key)
 
-  -- the figure at a row and a column: a figure that has no entry is 0
-  unfoldable pub figure : ℕ → ℕ → ℤ
-  figure row column = valueUnder (S .entries) (row * 64 + column)
+  -- the table of a sheet: a figure that has no entry is 0
+  abbrev pub tableOf : Table
+  tableOf = valueUnder (S .entries)
 
-  -- the figures by material and limit: the row decides what a figure means
-  unfoldable pub problem : Problem
-  problem = record {
-    materials = S .materials;
-    limits = S .limits;
-    numerator = S .numerator;
-    scale = S .scale;
-    cost = λ j. figure 0 j;
-    least = λ j. figure 1 j;
-    most = λ j. figure 2 j;
-    coefficient = λ i j. figure (3 + i) j;
-    rhs = λ i. figure (3 + i) (S .materials);
-  }
+-- the figures of a table by material and limit: the row decides what a figure means
+unfoldable pub problemFrom : Sizes → Table → Problem
+problemFrom z T =
+    let n = z .shape .materials in
+    record {
+      materials = n;
+      limits = z .shape .limits;
+      numerator = z .numerator;
+      scale = z .scale;
+      cost = λ j. T (keyOf 0 j);
+      least = λ j. T (keyOf 1 j);
+      most = λ j. T (keyOf 2 j);
+      coefficient = λ i j. T (keyOf (3 + i) j);
+      rhs = λ i. T (keyOf (3 + i) n);
+    }
+
+-- the problem of a sheet that has been read
+abbrev pub problem : Sheet → Problem
+problem S = problemFrom (S .sizes) (tableOf S)

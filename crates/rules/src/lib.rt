@@ -33,6 +33,20 @@ pub enum Answer {
     Refused(Refusal),
 }
 
+// The shape of a sheet: n and m, how many materials and limits there are.
+pub struct Shape {
+    pub materials: usize,
+    pub limits: usize,
+}
+
+// The sizes of a sheet without e: its shape, and p, D and k.
+pub struct Sizes {
+    pub shape: Shape,
+    pub numerator: usize,
+    pub scale: usize,
+    pub steps: usize,
+}
+
 // What a figure of the sheet is, in the order of document 01's table of ranges.
 pub enum Kind {
     Cost,

@@ -1,6 +1,7 @@
 -- The costs of an accepted problem's run fit, and so does its gap. The figures f are those that the functions are lent.
 use mathlib.Core.Path.{_≡_}
 use mathlib.Core.Option.{none}
+use mathlib.Core.List.{List}
 use Prim.Native.Nat.{ℕ, _≤_}
 use native.Mathlib.Nat.{le-trans}
 use lib.Dec.{lit≤}
@@ -31,23 +32,23 @@ cost-fits accepted x costs = record {
   scaled = costs .scaled .fits;
 }
 
-module _ (f : Figures) {k : ℕ} (accepted : Accepted (problemOf f) k) where
+module _ (f : Figures) (a : List ℤ) {k : ℕ} (accepted : Accepted (problemOf f a) k) where
   -- ---- the greatest and the cheapest cost
-  pub greatest-fits : CostFits (materialsOnly (f .materials) (f .scale) (f .cost) (f .least) (f .most)) (greatestEnd (problemOf f))
+  pub greatest-fits : CostFits (materialsOnly (f .materials) (f .scale) (f .cost) (f .least) (f .most)) (greatestEnd (problemOf f a))
   unfolding costOf
   greatest-fits =
-      let fits = cost-fits accepted _ (cost-magnitudes accepted _ (lit≤ tt) (amounts-bnd accepted (greatest-minimal (problemOf f)))) in
+      let fits = cost-fits accepted _ (cost-magnitudes accepted _ (lit≤ tt) (amounts-bnd accepted (greatest-minimal (problemOf f a)))) in
       record { narrow = fits .narrow; scale = fits .scale; sum = fits .sum; scaled = fits .scaled }
 
-  pub cheapest-fits : CostFits (materialsOnly (f .materials) (f .scale) (f .cost) (f .least) (f .most)) (cheapestEnd (problemOf f))
+  pub cheapest-fits : CostFits (materialsOnly (f .materials) (f .scale) (f .cost) (f .least) (f .most)) (cheapestEnd (problemOf f a))
   unfolding costOf
   cheapest-fits =
-      let fits = cost-fits accepted _ (cost-magnitudes accepted _ (lit≤ tt) (amounts-bnd accepted (cheapest-minimal (problemOf f)))) in
+      let fits = cost-fits accepted _ (cost-magnitudes accepted _ (lit≤ tt) (amounts-bnd accepted (cheapest-minimal (problemOf f a)))) in
       record { narrow = fits .narrow; scale = fits .scale; sum = fits .sum; scaled = fits .scaled }
 
   -- ---- the gap after t steps, none of them refused
-  pub gap-fits : (t : ℕ) → t ≤ k → stepRefusal (problemOf f) t ≡ none
-      → GapFits (costsOnly (f .materials) (f .scale) (f .cost)) t (lowAfter (problemOf f) t) (at (stateAfter (problemOf f) t .sums))
+  pub gap-fits : (t : ℕ) → t ≤ k → stepRefusal (problemOf f a) t ≡ none
+      → GapFits (costsOnly (f .materials) (f .scale) (f .cost)) t (lowAfter (problemOf f a) t) (at (stateAfter (problemOf f a) t .sums))
   unfolding costOf gapOf
   gap-fits t few going =
       let large = run-magnitudes accepted t few going .state in

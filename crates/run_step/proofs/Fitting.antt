@@ -1,5 +1,6 @@
 -- What the functions of a step ask follows from the magnitudes of the run.
 use mathlib.Core.Path.{_≡_, refl, sym, ap, subst}
+use mathlib.Core.List.{List}
 use Prim.Native.Nat.{ℕ, _≤_}
 use native.Mathlib.Nat.{lt-of-lt-of-le}
 use lib.IntN.{ℤ, pos, _+ℤ_, _*ℤ_, +ℤ-idl}
@@ -25,16 +26,17 @@ use Rattle.run_moves.specs.Moves.{limitsMoved, MoveFits}
 use Rattle.run_totals.specs.Totals.{TotalsFit}
 
 -- the problem that the look is lent: all but the step numerator, which it does not use
-abbrev pub lookedAt : Figures → Problem
-lookedAt f = problemIn (f .materials) (f .limits) 0 (f .scale) (f .cost) (f .least) (f .most) (f .coefficient) (f .rhs)
+abbrev pub lookedAt : Figures → List ℤ → Problem
+lookedAt f a = problemIn (f .materials) (f .limits) 0 (f .scale) (f .cost) (f .least) (f .most) a (f .rhs)
 
-pub same-look : (f : Figures) (M : ℕ → ℤ) → lookAt (lookedAt f) M ≡ lookAt (problemOf f) M
+pub same-look : (f : Figures) (a : List ℤ) (M : ℕ → ℤ) → lookAt (lookedAt f a) M ≡ lookAt (problemOf f a) M
 unfolding lookAt amount reducedCost residual loadOf dualValue costOf
-same-look f M = refl
+same-look f a M = refl
 
-module _ (f : Figures) {k : ℕ} (accepted : Accepted (problemOf f) k) (t : ℕ) (large : RunMagnitudes (problemOf f) t) where
+module _ (f : Figures) (a : List ℤ) {k : ℕ} (accepted : Accepted (problemOf f a) k) (t : ℕ)
+    (large : RunMagnitudes (problemOf f a) t) where
   abbrev P : Problem
-  P = problemOf f
+  P = problemOf f a
 
   amounts-fit : AmountsFit P (entering P t) (replicate 32 (pos 0))
   amounts-fit = record {
@@ -76,7 +78,7 @@ module _ (f : Figures) {k : ℕ} (accepted : Accepted (problemOf f) k) (t : ℕ)
           → sumTo m (λ i. entering P t i *ℤ residual P (amounts P t) i) ≡ sumTo m (λ i. entering P t i *ℤ residuals P t i)
       by-residuals m l = sumTo-cong m _ _ (λ i h. ap (λ g. entering P t i *ℤ g) (sym (residuals-are P t i (lt-of-lt-of-le h l))))
 
-  pub look-fits : LookFits (lookedAt f) (entering P t) (replicate 32 (pos 0)) (replicate 16 (pos 0))
+  pub look-fits : LookFits (lookedAt f a) (entering P t) (replicate 32 (pos 0)) (replicate 16 (pos 0))
   unfolding lookAfter lookAt amount reducedCost residual loadOf dualValue costOf
   look-fits =
       let cost = cost-fits accepted (amounts P t) (large .step .step-cost) in

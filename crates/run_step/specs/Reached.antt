@@ -1,5 +1,6 @@
 -- A state that steps lead to, and what a step asks of it.
 use mathlib.Core.Path.{_≡_}
+use mathlib.Core.List.{List}
 use mathlib.Core.Option.{none}
 use Prim.Native.Nat.{ℕ, _≤_, _<_}
 use lib.IntN.{ℤ, pos, _*ℤ_}
@@ -12,15 +13,15 @@ use Rattle.sheet_figures.specs.Figures.{problemOf}
 use Rattle.run_step.specs.declared.State.{State}
 use Rattle.run_step.specs.States.{stateIn}
 
--- the figures are those of an accepted sheet, and k steps of its run, of which none is refused, lead to the state w
-pub record Reached (f : Figures) (k : ℕ) (w : State) : Type 0 where
-  pub accepted : Accepted (problemOf f) (f .steps)
+-- the figures, with the coefficients in a, are those of an accepted sheet, and k steps of its run, of which none is refused, lead to the state w
+pub record Reached (f : Figures) (a : List ℤ) (k : ℕ) (w : State) : Type 0 where
+  pub accepted : Accepted (problemOf f a) (f .steps)
   pub few : k ≤ f .steps
-  pub going : stepRefusal (problemOf f) k ≡ none
-  pub state : w ≡ stateIn (stateAfter (problemOf f) k)
+  pub going : stepRefusal (problemOf f a) k ≡ none
+  pub state : w ≡ stateIn (stateAfter (problemOf f a) k)
 
 -- the state before step t, and D times the greatest cost
-pub record StepReady (f : Figures) (greatest : ℤ) (t : ℕ) (w : State) : Type 0 where
-  pub reached : Reached f t w
+pub record StepReady (f : Figures) (a : List ℤ) (greatest : ℤ) (t : ℕ) (w : State) : Type 0 where
+  pub reached : Reached f a t w
   pub more : t < f .steps
-  pub greatest-is : greatest ≡ pos (f .scale) *ℤ greatestCost (problemOf f)
+  pub greatest-is : greatest ≡ pos (f .scale) *ℤ greatestCost (problemOf f a)

@@ -47,9 +47,10 @@ fn stopped(state: State, t: usize, cause: Cause) -> Stepped
 
 impl State {
     // Step t, with D times the greatest cost: a look at the multipliers, refusal 9, the move, refusal 10, and the totals.
-    pub fn step(self, f: Figures, greatest: i64, t: usize) -> Stepped
-        requires { ⌜ StepReady f greatest t self ⌝ }
-        ensures { λ r. ⌜ AfterSteps (problemOf f) (suc t) (refusalAt (problemOf f) t) r ⌝ }
+    pub fn step(self, f: Figures, coefficient: &[i16; 512], greatest: i64, t: usize) -> Stepped
+        requires { ⌜ StepReady f (now coefficient) greatest t self ⌝ }
+        ensures { λ r. ⌜ AfterSteps (problemOf f (now (coefficient .entry))) (suc t)
+            (refusalAt (problemOf f (now (coefficient .entry))) t) r ⌝ }
     {
         let mut w = self;
         let mut x: [i16; 32] = [0; 32];
@@ -61,7 +62,7 @@ impl State {
             &f.cost,
             &f.least,
             &f.most,
-            &f.coefficient,
+            coefficient,
             &f.rhs,
             &w.multipliers,
             &mut x,

@@ -11,9 +11,10 @@ use run_step::Stepped;
 use sheet_figures::Figures;
 
 // k steps from multipliers of 0, where low is D times the cheapest cost.
-pub fn run(f: Figures) -> Stepped
-    requires { ⌜ Accepted (problemOf f) (f .steps) ⌝ }
-    ensures { λ r. ⌜ AfterSteps (problemOf f) (f .steps) (stepRefusal (problemOf f) (f .steps)) r ⌝ }
+pub fn run(f: Figures, coefficient: &[i16; 512]) -> Stepped
+    requires { ⌜ Accepted (problemOf f (now coefficient)) (f .steps) ⌝ }
+    ensures { λ r. ⌜ AfterSteps (problemOf f (now (coefficient .entry))) (f .steps)
+        (stepRefusal (problemOf f (now (coefficient .entry))) (f .steps)) r ⌝ }
 {
     let k = f.steps;
     let greatest = greatest_value(f.materials, f.scale, &f.cost, &f.least, &f.most);
@@ -30,7 +31,7 @@ pub fn run(f: Figures) -> Stepped
     let mut t: usize = 0;
     while t < k {
         let w = r.state;
-        r = w.step(f, greatest, t);
+        r = w.step(f, coefficient, greatest, t);
         let stop = r.stop;
         let Verdict::Passed = stop else {
             return r;

@@ -32,6 +32,6 @@ unfolding floorOf notAbove
 floor-test S zero = le-ltb (S .key 0) 0 (omega arith)
 floor-test S (suc i) = below-next (S .key (suc i)) (S .key i)
 
-pub key-test : (S : Sheet) (i : ℕ) → keyBad (S .materials) (S .limits) (floorOf S i) (S .key i) ≡ badKey S i
+pub key-test : (S : Sheet) (i : ℕ) → keyBad (S .sizes .shape) (floorOf S i) (S .key i) ≡ badKey S i
 unfolding badKey
 key-test S i = rw (floor-test S i)

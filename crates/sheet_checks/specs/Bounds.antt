@@ -1,21 +1,41 @@
 -- The pass over the bounds: refusal 7.
+use mathlib.Core.Path.{_≡_, ap}
 use mathlib.Core.Bool.{Bool}
 use mathlib.Core.List.{List}
 use mathlib.Core.Option.{Option}
 use Prim.Native.Nat.{ℕ, _≤_}
+use native.Mathlib.Omega.{arith}
 use lib.IntN.{ℤ}
 use lib.Signed.{ltZ}
 use Rattle.rules.specs.Notation.{at}
-use Rattle.rules.specs.Refusals.{Numbered, refuse, firstBelow}
+use Rattle.rules.specs.Sheet.{Sheet, tableOf}
+use Rattle.rules.specs.Refusals.{Numbered, refuse, firstBelow, crossed}
+use Rattle.proof_laws.specs.FirstPlace.{first-cong}
+use Rattle.sheet_table.specs.Tabled.{placeAt, tabled, at-tabled}
 
--- the arrays have a place for each material
+-- the table has a column for each material
 pub record FewMaterials (n : ℕ) : Type 0 where
   pub narrow : n ≤ 32
 
 -- is the least amount of material j above its most?
-abbrev pub crossedAt : List ℤ → List ℤ → ℕ → Bool
-crossedAt least most j = ltZ (at most j) (at least j)
+abbrev pub crossedAt : List ℤ → ℕ → Bool
+crossedAt table j = ltZ (at table (placeAt 2 j)) (at table (placeAt 1 j))
 
--- refusal 7, of arrays of least and most amounts
-unfoldable pub crossedRefusal : ℕ → List ℤ → List ℤ → Option Numbered
-crossedRefusal n least most = firstBelow n (λ j. refuse 7 j (crossedAt least most j))
+-- refusal 7, of a table in an array
+unfoldable pub crossedRefusal : ℕ → List ℤ → Option Numbered
+crossedRefusal n table = firstBelow n (λ j. refuse 7 j (crossedAt table j))
+
+-- refusal 7 of a sheet
+unfoldable pub boundRefusal : Sheet → Option Numbered
+boundRefusal S = firstBelow (S .sizes .shape .materials) (λ j. refuse 7 j (crossed S j))
+
+-- the sheet's table in an array says the same
+pub crossed-is : (S : Sheet) → FewMaterials (S .sizes .shape .materials)
+    → crossedRefusal (S .sizes .shape .materials) (tabled (tableOf S)) ≡ boundRefusal S
+unfolding crossedRefusal boundRefusal crossed
+crossed-is S few =
+    first-cong (S .sizes .shape .materials) _ _ (λ j l.
+    let narrow = few .narrow in
+    let most = at-tabled {row = 2} {column = j} (record { row-in = omega arith; column-in = omega arith }) (tableOf S) in
+    let least = at-tabled {row = 1} {column = j} (record { row-in = omega arith; column-in = omega arith }) (tableOf S) in
+    λ i. refuse 7 j (ltZ (most i) (least i)))

@@ -1,31 +1,27 @@
 -- The pass over the keys: refusal 5, and what a sheet that passed it has.
 use mathlib.Core.Path.{_≡_}
-use mathlib.Core.Bool.{Bool, false}
+use mathlib.Core.Bool.{false}
 use mathlib.Core.List.{List}
 use mathlib.Core.Option.{Option, none}
 use Prim.Native.Nat.{ℕ, _<_}
-use Rattle.rules.specs.Sheet.{Sheet, sheetOf, rowOf, columnOf}
-use Rattle.rules.specs.Refusals.{Numbered, refuse, firstBelow, noFigureAt, badKey}
-use Rattle.proof_laws.specs.Entries.{good-key}
+use Rattle.rules.specs.Sheet.{Sheet, sheetOf}
+use Rattle.rules.specs.Refusals.{Numbered, refuse, firstBelow, badKey}
+use Rattle.proof_laws.specs.Entries.{noFigureFor, good-key}
 use Rattle.proof_laws.specs.NotRefused.{refuse-false, first-none}
-use Rattle.sheet_header.specs.declared.Sizes.{Sizes}
+use Rattle.sheet_header.specs.declared.Header.{Header}
 use Rattle.sheet_header.specs.Header.{Headed}
 
 -- refusal 5, over the whole sheet
 unfoldable pub keyRefusal : Sheet → Option Numbered
 keyRefusal S = firstBelow (S .entries) (λ i. refuse 5 i (badKey S i))
 
--- a sheet that passed refusals 2 to 5, and its sizes
-pub record Keyed (s : List ℕ) (z : Sizes) : Type 0 where
-  pub headed : Headed s z
+-- a sheet that passed refusals 1 to 5, and its header
+pub record Keyed (s : List ℕ) (h : Header) : Type 0 where
+  pub headed : Headed s h
   pub keys : keyRefusal (sheetOf s) ≡ none
 
--- does the key of entry i stand for no figure?
-abbrev pub noFigureFor : Sheet → ℕ → Bool
-noFigureFor S i = noFigureAt (S .materials) (S .limits) (rowOf (S .key i)) (columnOf (S .key i))
-
--- each of its keys stands for one
-pub figure-there : {s : List ℕ} {z : Sizes} → Keyed s z
+-- each of its keys stands for a figure
+pub figure-there : {s : List ℕ} {h : Header} → Keyed s h
     → (i : ℕ) → i < sheetOf s .entries → noFigureFor (sheetOf s) i ≡ false
 unfolding keyRefusal
 figure-there {s} h i l =

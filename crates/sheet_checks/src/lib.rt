@@ -10,21 +10,23 @@ use rules::Cause;
 use rules::Verdict;
 use sheet_entries::Key;
 use sheet_entries::read_key;
-use sheet_header::Sizes;
+use sheet_header::Header;
 use sheet_header::refused;
+use sheet_table::place_at;
 
 // Refusal 5: the first entry whose key is bad.
-pub fn check_keys(s: &[u8], sizes: Sizes) -> Verdict
-    requires { ⌜ Headed (now s) sizes ⌝ }
+pub fn check_keys(s: &[u8], header: Header) -> Verdict
+    requires { ⌜ Headed (now s) header ⌝ }
     ensures { λ r. ⌜ refusalOf r ≡ keyRefusal (sheetOf (now (s .entry))) ⌝ }
 {
-    let n = sizes.materials;
-    let m = sizes.limits;
-    let e = sizes.entries;
+    let sizes = header.sizes;
+    let shape = sizes.shape;
+    let keys = header.length;
+    let e = header.entries;
     let mut floor: usize = 0;
     let mut i: usize = 0;
     while i < e {
-        let read = read_key(n, m, floor, size_at(s, 12 + 2 * i));
+        let read = read_key(shape, floor, size_at(s, keys + 2 * i));
         let Key::Good(key) = read else {
             return refused(i, Cause::Key);
         };
@@ -35,13 +37,15 @@ pub fn check_keys(s: &[u8], sizes: Sizes) -> Verdict
 }
 
 // Refusal 7: the first material whose least amount is above its most.
-pub fn check_bounds(n: usize, least: &[i16; 32], most: &[i16; 32]) -> Verdict
+pub fn check_bounds(n: usize, table: &[i32; 646]) -> Verdict
     requires { ⌜ FewMaterials n ⌝ }
-    ensures { λ r. ⌜ refusalOf r ≡ crossedRefusal n (now (least .entry)) (now (most .entry)) ⌝ }
+    ensures { λ r. ⌜ refusalOf r ≡ crossedRefusal n (now (table .entry)) ⌝ }
 {
     let mut j: usize = 0;
     while j < n {
-        if most[j] < least[j] {
+        let least = table[place_at(1, j)];
+        let most = table[place_at(2, j)];
+        if most < least {
             return refused(j, Cause::Bounds);
         }
         j += 1;

@@ -1,58 +1,61 @@
 -- What the tests that the code makes say of a key and of an entry.
-use mathlib.Core.Path.{_≡_, ap}
+use mathlib.Core.Path.{_≡_, ap, _∙_}
 use mathlib.Core.Bool.{true, false}
 use Prim.Native.Nat.{ℕ, _≤_, _<_}
 use native.Mathlib.Omega.{arith}
 use borrow.Author.Tests.{lt-ltb, le-ltb, ne-eqb}
-use lib.Dec.{eqb}
 use lib.IntN.{ℤ, pos, negsuc, natAbs}
+use Rattle.rules.specs.declared.Shape.{Shape}
+use Rattle.rules.specs.Notation.{isZero}
 use Rattle.rules.specs.Sheet.{rowOf, columnOf}
-use Rattle.rules.specs.Ranges.{rangeOf, inRange}
+use Rattle.rules.specs.Ranges.{rangeOf, kindAt, inRange}
 use Rattle.rules.specs.Refusals.{noFigureAt}
-use Rattle.sheet_kinds.specs.Read.{gives, refused, unless}
+use Rattle.proof_laws.specs.Read.{gives, refused, unless}
 use Rattle.sheet_entries.specs.KeyRead.{keyRead}
-use Rattle.sheet_entries.specs.EntryRead.{entryKind, entryPlaced, entryRead}
+use Rattle.sheet_entries.specs.EntryRead.{entryRead}
 
 -- ---- a key
-module _ (n m floor key : ℕ) where
-  pub no-figure : noFigureAt n m (rowOf key) (columnOf key) ≡ true → keyRead n m floor key ≡ refused 5
+module _ (shape : Shape) (floor key : ℕ) where
+  pub no-figure : noFigureAt shape (rowOf key) (columnOf key) ≡ true → keyRead shape floor key ≡ refused 5
   unfolding keyRead unless
   no-figure h = rw h
 
-  module _ (h : noFigureAt n m (rowOf key) (columnOf key) ≡ false) where
-    pub low-key : key < floor → keyRead n m floor key ≡ refused 5
+  module _ (h : noFigureAt shape (rowOf key) (columnOf key) ≡ false) where
+    pub low-key : key < floor → keyRead shape floor key ≡ refused 5
     unfolding keyRead unless
     low-key l = rw (h, lt-ltb key floor l)
 
-    pub good-key : floor ≤ key → keyRead n m floor key ≡ gives key
+    pub good-key : floor ≤ key → keyRead shape floor key ≡ gives key
     unfolding keyRead unless
     good-key l = rw (h, le-ltb key floor l)
 
 -- ---- an entry
 -- the test for 0 is one of the absolute value
-nonzero : (v : ℤ) → (v ≡ pos 0 → ⊥) → eqb (natAbs v) 0 ≡ false
+nonzero : (v : ℤ) → (v ≡ pos 0 → ⊥) → isZero v ≡ false
+unfolding isZero
 nonzero v h = ne-eqb (natAbs v) 0 (λ e. h (zero-of v e))
   where
     zero-of : (v : ℤ) → natAbs v ≡ 0 → v ≡ pos 0
     zero-of (pos k) e = ap pos e
     zero-of (negsuc k) e = absurd (omega arith)
 
-module _ (n m key : ℕ) (value : ℤ) where
-  pub no-entry : noFigureAt n m (rowOf key) (columnOf key) ≡ true → entryRead n m key value ≡ refused 6
+module _ (shape : Shape) (key : ℕ) (value : ℤ) where
+  pub no-entry : noFigureAt shape (rowOf key) (columnOf key) ≡ true → entryRead shape key value ≡ refused 5
   unfolding entryRead unless
   no-entry h = rw h
 
-  module _ (h : noFigureAt n m (rowOf key) (columnOf key) ≡ false) where
-    pub zero-value : value ≡ pos 0 → entryRead n m key value ≡ refused 6
-    unfolding entryRead unless
+  module _ (h : noFigureAt shape (rowOf key) (columnOf key) ≡ false) where
+    pub zero-value : value ≡ pos 0 → entryRead shape key value ≡ refused 6
+    unfolding entryRead unless isZero
     zero-value e = rw (h, e)
 
     module _ (other : value ≡ pos 0 → ⊥) where
-      pub out-of-range : inRange (rangeOf (entryKind n m key value)) value ≡ false → entryRead n m key value ≡ refused 6
+      pub out-of-range : inRange (rangeOf (kindAt shape (rowOf key) (columnOf key))) value ≡ false
+          → entryRead shape key value ≡ refused 6
       unfolding entryRead unless
       out-of-range k = rw (h, nonzero value other, k)
 
-      pub in-range : inRange (rangeOf (entryKind n m key value)) value ≡ true
-          → entryRead n m key value ≡ gives (entryPlaced n m key value)
+      pub in-range : inRange (rangeOf (kindAt shape (rowOf key) (columnOf key))) value ≡ true
+          → entryRead shape key value ≡ gives value
       unfolding entryRead unless
       in-range k = rw (h, nonzero value other, k)

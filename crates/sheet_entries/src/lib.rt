@@ -1,12 +1,10 @@
-// One entry of a sheet: its key, its value, and its place in the arrays of figures.
+// One entry of a sheet: its key and its value.
 ghost use mathlib.Core.Path.{_≡_};
-ghost use Rattle.rules.specs.declared.Kind.the-variants.{Cost, Least, Most, Coefficient, Rhs};
 ghost use Rattle.sheet_kinds.specs.Meaning.{FewLimits};
-ghost use Rattle.sheet_entries.specs.KeyRead.{keyOf, keyRead};
-ghost use Rattle.sheet_entries.specs.EntryRead.{entryOf, entryRead};
-ghost use Rattle.sheet_entries.specs.Store.{Storable, storeIf};
-use rules::Kind;
-use sheet_figures::place_of;
+ghost use Rattle.sheet_entries.specs.KeyRead.{keyAnswered, keyRead};
+ghost use Rattle.sheet_entries.specs.EntryRead.{entryAnswered, entryRead};
+use rules::Cause;
+use rules::Shape;
 use sheet_kinds::Meaning;
 use sheet_kinds::meaning_at;
 use sheet_ranges::in_range;
@@ -17,19 +15,18 @@ pub enum Key {
     Bad,
 }
 
-// What reading an entry gives: a value, with its kind and its place in the array of that kind, or refusal 6.
+// What reading an entry gives: its value, or the refusal of its key or of its value.
 pub enum EntryValue {
-    Figure { kind: Kind, at: usize, value: i32 },
-    Bad,
+    Good(i32),
+    Bad(Cause),
 }
 
-// A key, with n materials and m limits. `floor` is the least key that it may be:
-// one more than the key before, if there is one, and else 0.
-pub fn read_key(n: usize, m: usize, floor: usize, key: usize) -> Key
-    requires { ⌜ FewLimits m ⌝ }
-    ensures { λ r. ⌜ keyOf r ≡ keyRead n m floor key ⌝ }
+// A key. `floor` is the least that it may be: one more than the key before, if there is one, and else 0.
+pub fn read_key(shape: Shape, floor: usize, key: usize) -> Key
+    requires { ⌜ FewLimits shape ⌝ }
+    ensures { λ r. ⌜ keyAnswered r ≡ keyRead shape floor key ⌝ }
 {
-    let meaning = meaning_at(n, m, key / 64, key % 64);
+    let meaning = meaning_at(shape, key / 64, key % 64);
     let Meaning::Figure(_) = meaning else {
         return Key::Bad;
     };
@@ -39,64 +36,20 @@ pub fn read_key(n: usize, m: usize, floor: usize, key: usize) -> Key
     Key::Good(key)
 }
 
-// An entry, with n materials and m limits.
-pub fn read_entry(n: usize, m: usize, key: usize, value: i32) -> EntryValue
-    requires { ⌜ FewLimits m ⌝ }
-    ensures { λ r. ⌜ entryOf r ≡ entryRead n m key value ⌝ }
+// An entry: refusal 5 where its key names no figure, and 6 where its value is 0 or outside its range.
+pub fn read_entry(shape: Shape, key: usize, value: i32) -> EntryValue
+    requires { ⌜ FewLimits shape ⌝ }
+    ensures { λ r. ⌜ entryAnswered r ≡ entryRead shape key value ⌝ }
 {
-    let row = key / 64;
-    let column = key % 64;
-    let meaning = meaning_at(n, m, row, column);
+    let meaning = meaning_at(shape, key / 64, key % 64);
     let Meaning::Figure(kind) = meaning else {
-        return EntryValue::Bad;
+        return EntryValue::Bad(Cause::Key);
     };
     if value == 0 {
-        return EntryValue::Bad;
+        return EntryValue::Bad(Cause::Value);
     }
     if !in_range(kind, value) {
-        return EntryValue::Bad;
+        return EntryValue::Bad(Cause::Value);
     }
-    let at = place_of(kind, row, column);
-    EntryValue::Figure {
-        kind: kind,
-        at: at,
-        value: value,
-    }
-}
-
-// Stores a value in the array of its kind; the other arrays stay as lent.
-pub fn store(
-    kind: Kind,
-    at: usize,
-    value: i32,
-    cost: &mut [i16; 32],
-    least: &mut [i16; 32],
-    most: &mut [i16; 32],
-    coefficient: &mut [i16; 512],
-    rhs: &mut [i32; 16],
-)
-    requires { ⌜ Storable kind at value ⌝ }
-    ensures { λ _. ⌜ now (cost .exit) ≡ storeIf Cost kind at value (now (cost .entry)) ⌝ }
-    ensures { λ _. ⌜ now (least .exit) ≡ storeIf Least kind at value (now (least .entry)) ⌝ }
-    ensures { λ _. ⌜ now (most .exit) ≡ storeIf Most kind at value (now (most .entry)) ⌝ }
-    ensures { λ _. ⌜ now (coefficient .exit) ≡ storeIf Coefficient kind at value (now (coefficient .entry)) ⌝ }
-    ensures { λ _. ⌜ now (rhs .exit) ≡ storeIf Rhs kind at value (now (rhs .entry)) ⌝ }
-{
-    match kind {
-        Kind::Cost => {
-            cost[at] = value as i16;
-        }
-        Kind::Least => {
-            least[at] = value as i16;
-        }
-        Kind::Most => {
-            most[at] = value as i16;
-        }
-        Kind::Coefficient => {
-            coefficient[at] = value as i16;
-        }
-        Kind::Rhs => {
-            rhs[at] = value;
-        }
-    }
+    EntryValue::Good(value)
 }

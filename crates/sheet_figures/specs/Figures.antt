@@ -1,14 +1,23 @@
--- The arrays of a problem with k steps, and what stands at each place.
+-- The arrays of a problem with k steps, and the problem that stands in arrays.
+use mathlib.Core.Path.{_≡_, refl, _∙_}
 use mathlib.Core.List.{List}
-use Prim.Native.Nat.{ℕ, _+_, _*_, _≤_}
+use Prim.Native.Nat.{ℕ, _+_, _*_, _<_, _≤_}
+use native.Mathlib.Nat.{zero-add, le-trans}
+use native.Mathlib.Omega.{arith}
 use lib.IntN.{ℤ, pos}
-use lib.ListN.{replicate}
+use lib.ListN.{length, replicate, length-replicate}
 use Rattle.rules.specs.Notation.{at}
 use Rattle.rules.specs.Problem.{Problem}
+use Rattle.rules.specs.Sheet.{problemFrom}
+use Rattle.proof_laws.specs.Agreeing.{Agree}
 use Rattle.sheet_figures.specs.declared.Figures.{Figures}
-use Rattle.sheet_figures.specs.PartlyFilled.{RowHolds, RowsHold, row, rows, row-holds, rows-hold}
+use Rattle.sheet_figures.specs.Put.{put, putRows, put-cong, put-here, rows-cong, rows-here}
 
--- the figures of a problem in arrays of 32 and 16 places, and of 16 rows of 32
+-- n figures in an array of `room` places, and 0 at the others
+unfoldable pub row : ℕ → ℕ → (ℕ → ℤ) → List ℤ
+row room n f = put (replicate room (pos 0)) 0 n f
+
+-- the figures of a problem in arrays of 32 and 16 places
 unfoldable pub figuresOf : Problem → ℕ → Figures
 figuresOf P k = record {
   materials = P .materials;
@@ -19,11 +28,18 @@ figuresOf P k = record {
   cost = row 32 (P .materials) (P .cost);
   least = row 32 (P .materials) (P .least);
   most = row 32 (P .materials) (P .most);
-  coefficient = rows 16 (P .limits) (P .materials) (P .coefficient);
   rhs = row 16 (P .limits) (P .rhs);
 }
 
--- the problem whose figures stand in arrays
+-- the coefficients of a problem in a lent array: a row of 32 places for each limit; the other places stay as lent
+unfoldable pub coefficientsOver : List ℤ → Problem → List ℤ
+coefficientsOver lent P = putRows lent (P .limits) (P .materials) (P .coefficient)
+
+-- no figures: every size and every place is 0
+unfoldable pub noFigures : Figures
+noFigures = figuresOf (problemFrom (record { shape = record { materials = 0; limits = 0 }; numerator = 0; scale = 0; steps = 0 }) (λ _. pos 0)) 0
+
+-- ---- the problem whose figures stand in arrays
 abbrev pub problemIn : (n m p D : ℕ) → (c l u a b : List ℤ) → Problem
 problemIn n m p D c l u a b = record {
   materials = n;
@@ -38,40 +54,55 @@ problemIn n m p D c l u a b = record {
 }
 
 -- the problem whose figures these are
-abbrev pub problemOf : Figures → Problem
-problemOf F =
-    problemIn (F .materials) (F .limits) (F .numerator) (F .scale)
-    (F .cost) (F .least) (F .most) (F .coefficient) (F .rhs)
+abbrev pub problemOf : Figures → List ℤ → Problem
+problemOf F a =
+    problemIn (F .materials) (F .limits) (F .numerator) (F .scale) (F .cost) (F .least) (F .most) a (F .rhs)
 
--- no figures: every size and every place is 0
-unfoldable pub noFigures : Figures
-noFigures = record {
-  materials = 0;
-  limits = 0;
-  numerator = 0;
-  scale = 0;
-  steps = 0;
-  cost = replicate 32 (pos 0);
-  least = replicate 32 (pos 0);
-  most = replicate 32 (pos 0);
-  coefficient = replicate 512 (pos 0);
-  rhs = replicate 16 (pos 0);
+-- figure j stands at place j
+row-here : (room n : ℕ) (f : ℕ → ℤ) → n ≤ room → (j : ℕ) → j < n → at (row room n f) j ≡ f j
+unfolding row
+row-here room n f fits j l =
+    rw zero-add at (put-here (replicate room (pos 0)) 0 n f (rw (length-replicate, zero-add) fits) j l)
+
+-- the arrays of a problem hold its figures
+pub in-arrays : (P : Problem) (k : ℕ) (lent : List ℤ) → P .materials ≤ 32 → P .limits ≤ 16 → length lent ≡ 512
+    → Agree (problemOf (figuresOf P k) (coefficientsOver lent P)) P
+unfolding figuresOf coefficientsOver
+in-arrays P k lent narrow few room = record {
+  materials = refl;
+  limits = refl;
+  numerator = refl;
+  scale = refl;
+  cost = row-here 32 (P .materials) (P .cost) narrow;
+  least = row-here 32 (P .materials) (P .least) narrow;
+  most = row-here 32 (P .materials) (P .most) narrow;
+  coefficient = rows-here lent (P .limits) (P .materials) (P .coefficient) narrow (omega arith);
+  rhs = row-here 16 (P .limits) (P .rhs) few;
 }
 
--- Each figure stands at its place, and every place past n and m holds 0.
-pub record FiguresHold (P : Problem) (F : Figures) : Type 0 where
-  pub costs : RowHolds (P .materials) (P .cost) (F .cost)
-  pub leasts : RowHolds (P .materials) (P .least) (F .least)
-  pub mosts : RowHolds (P .materials) (P .most) (F .most)
-  pub coefficients : RowsHold (P .limits) (P .materials) (P .coefficient) (F .coefficient)
-  pub right-hand-sides : RowHolds (P .limits) (P .rhs) (F .rhs)
+-- ---- problems that agree have the same arrays
+module _ {P Q : Problem} (same : Agree P Q) where
+  rows-same : (room : ℕ) {n m : ℕ} (f g : ℕ → ℤ) → n ≡ m → ((j : ℕ) → j < m → f j ≡ g j) → row room n f ≡ row room m g
+  unfolding row
+  rows-same room {n} {m} f g e h =
+      (λ i. put (replicate room (pos 0)) 0 (e i) f) ∙ put-cong (replicate room (pos 0)) 0 m f g h
 
-pub figures-hold : (P : Problem) (k : ℕ) → P .materials ≤ 32 → P .limits ≤ 16 → FiguresHold P (figuresOf P k)
-unfolding figuresOf
-figures-hold P k narrow few = record {
-  costs = row-holds 32 (P .materials) (P .cost) narrow;
-  leasts = row-holds 32 (P .materials) (P .least) narrow;
-  mosts = row-holds 32 (P .materials) (P .most) narrow;
-  coefficients = rows-hold 16 (P .limits) (P .materials) (P .coefficient) few narrow;
-  right-hand-sides = row-holds 16 (P .limits) (P .rhs) few;
-}
+  pub figures-same : (k : ℕ) → figuresOf P k ≡ figuresOf Q k
+  unfolding figuresOf
+  figures-same k = λ i. record {
+    materials = same .materials i;
+    limits = same .limits i;
+    numerator = same .numerator i;
+    scale = same .scale i;
+    steps = k;
+    cost = rows-same 32 (P .cost) (Q .cost) (same .materials) (same .cost) i;
+    least = rows-same 32 (P .least) (Q .least) (same .materials) (same .least) i;
+    most = rows-same 32 (P .most) (Q .most) (same .materials) (same .most) i;
+    rhs = rows-same 16 (P .rhs) (Q .rhs) (same .limits) (same .rhs) i;
+  }
+
+  pub coefficients-same : (lent : List ℤ) → coefficientsOver lent P ≡ coefficientsOver lent Q
+  unfolding coefficientsOver
+  coefficients-same lent =
+      (λ i. putRows lent (same .limits i) (same .materials i) (P .coefficient))
+      ∙ rows-cong lent (Q .limits) (Q .materials) (P .coefficient) (Q .coefficient) (same .coefficient)

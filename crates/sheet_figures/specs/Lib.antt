@@ -1,11 +1,7 @@
 -- A problem's figures in arrays.
---   Tabulated      one place of an array set, all places 0
---   PartlyFilled   arrays with more places than they have figures
---   Padded         lists in such arrays
---   Figures        the arrays of a problem, and what stands at each place
---   Places         a figure's row and column in a sheet, and its place in an array
-pub mod Tabulated
-pub mod PartlyFilled
+--   Put       figures put into an array, one after the other
+--   Padded    lists in arrays with more places
+--   Figures   the arrays of a problem, and the problem that stands in arrays
+pub mod Put
 pub mod Padded
 pub mod Figures
-pub mod Places

@@ -13,7 +13,7 @@ use lib.ListN.{length, set, replicate}
 use lib.Seq.{ext-getD}
 use Rattle.proof_integer.specs.Vector.{length-tabulate, at-tabulate}
 use Rattle.rules.specs.Notation.{tabulate, at}
-use Rattle.sheet_figures.specs.Tabulated.{at-past, tabulate-zero, tabulate-set}
+use Rattle.proof_integer.specs.Tabulated.{at-past, tabulate-zero, tabulate-set}
 
 -- a list in an array of `room` places
 unfoldable pub padded : ℕ → List ℤ → List ℤ

@@ -1,7 +1,5 @@
-// A sheet's figures in arrays, for the code, and the place of each. What stands at which place is said in specs/.
-ghost use mathlib.Core.Path.{_≡_};
-ghost use Rattle.sheet_figures.specs.Places.{Placeable, placeOf};
-use rules::Kind;
+// A sheet's figures in arrays, for the run. The coefficients, which are many, stand in an array of their own that is lent:
+// a_ij at place 32 i + j. What stands at which place is said in specs/.
 
 // Places from n and from m on hold 0.
 pub struct Figures {
@@ -21,22 +19,6 @@ pub struct Figures {
     pub least: [i16; 32],
     // u_j at place j
     pub most: [i16; 32],
-    // a_ij at place 32 i + j
-    pub coefficient: [i16; 512],
     // b_i at place i
     pub rhs: [i32; 16],
-}
-
-// The place of a figure in the array of its kind.
-pub fn place_of(kind: Kind, row: usize, column: usize) -> usize
-    requires { ⌜ Placeable kind row column ⌝ }
-    ensures { λ r. ⌜ r ≡ placeOf kind row column ⌝ }
-{
-    match kind {
-        Kind::Cost => column,
-        Kind::Least => column,
-        Kind::Most => column,
-        Kind::Coefficient => 32 * (row - 3) + column,
-        Kind::Rhs => row - 3,
-    }
 }

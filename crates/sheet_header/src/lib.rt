@@ -1,22 +1,30 @@
-// The header of a sheet: its six sizes, and refusals 2 to 4.
+// The header of a sheet: its sizes, refusal 1, and refusals 2 to 4.
 ghost use mathlib.Core.Path.{_≡_};
 ghost use Rattle.rules.specs.Refusals.{refusalOf};
-ghost use Rattle.sheet_header.specs.Header.{HasHeader, sizesOf, headerRefusal};
+ghost use Rattle.sheet_header.specs.Header.{HasHeader, headerAnswered, headerRead, headerRefusal};
 use bytes_read::size_at;
 use rules::Cause;
 use rules::Refusal;
+use rules::Shape;
+use rules::Sizes;
 use rules::Verdict;
 use sheet_sizes::dimensions_in_range;
 use sheet_sizes::parameters_in_range;
 
-// The six sizes: n, m, e, p, D and k.
-pub struct Sizes {
-    pub materials: usize,
-    pub limits: usize,
+// How long the header is: six sizes of 2 bytes.
+const HEADER: usize = 12;
+
+// The header of a sheet: its sizes, e, and how long the header is, which is where the keys begin.
+pub struct Header {
+    pub sizes: Sizes,
     pub entries: usize,
-    pub numerator: usize,
-    pub scale: usize,
-    pub steps: usize,
+    pub length: usize,
+}
+
+// What reading a header gives: the header, or refusal 1.
+pub enum HeaderRead {
+    Whole(Header),
+    Short,
 }
 
 // A refusal, as a verdict.
@@ -29,33 +37,44 @@ pub fn refused(place: usize, cause: Cause) -> Verdict
     })
 }
 
-// The sizes come first, 2 bytes each.
-pub fn sizes_of(s: &[u8]) -> Sizes
-    requires { ⌜ HasHeader (now s) ⌝ }
-    ensures { λ r. ⌜ r ≡ sizesOf (now (s .entry)) ⌝ }
+// The header of a sheet: n, m, e, p, D and k come first, 2 bytes each.
+pub fn read_header(s: &[u8]) -> HeaderRead
+    ensures { λ r. ⌜ headerAnswered r ≡ headerRead (now (s .entry)) ⌝ }
 {
-    Sizes {
-        materials: size_at(s, 0),
-        limits: size_at(s, 2),
-        entries: size_at(s, 4),
-        numerator: size_at(s, 6),
-        scale: size_at(s, 8),
-        steps: size_at(s, 10),
+    if s.len() < HEADER {
+        return HeaderRead::Short;
     }
+    HeaderRead::Whole(Header {
+        sizes: Sizes {
+            shape: Shape {
+                materials: size_at(s, 0),
+                limits: size_at(s, 2),
+            },
+            numerator: size_at(s, 6),
+            scale: size_at(s, 8),
+            steps: size_at(s, 10),
+        },
+        entries: size_at(s, 4),
+        length: HEADER,
+    })
 }
 
-// Refusals 2 to 4, of a sheet of so many bytes.
-pub fn check_header(bytes: usize, sizes: Sizes) -> Verdict
-    ensures { λ r. ⌜ refusalOf r ≡ headerRefusal bytes sizes ⌝ }
+// Refusals 2 to 4.
+pub fn check_header(s: &[u8], header: Header) -> Verdict
+    requires { ⌜ HasHeader (now s) header ⌝ }
+    ensures { λ r. ⌜ refusalOf r ≡ headerRefusal (now (s .entry)) ⌝ }
 {
-    let e = sizes.entries;
-    if !dimensions_in_range(sizes.materials, sizes.limits, e) {
+    let sizes = header.sizes;
+    let shape = sizes.shape;
+    let e = header.entries;
+    if !dimensions_in_range(shape, e) {
         return refused(0, Cause::Dimensions);
     }
-    if bytes != 12 + 6 * e {
+    let keys = header.length;
+    if s.len() != keys + 6 * e {
         return refused(0, Cause::Length);
     }
-    if !parameters_in_range(sizes.numerator, sizes.scale, sizes.steps) {
+    if !parameters_in_range(sizes) {
         return refused(0, Cause::Parameters);
     }
     Verdict::Passed

@@ -4,8 +4,9 @@ ghost use mathlib.Core.Bool.{_||_};
 ghost use lib.Dec.{ltb, eqb};
 ghost use Rattle.rules.specs.Ranges.{kindAt};
 ghost use Rattle.sheet_kinds.specs.Meaning.{FewLimits, meaningOf, meaningAt};
-ghost use Rattle.sheet_kinds.specs.Read.{unless};
+ghost use Rattle.proof_laws.specs.Read.{gives, unless};
 use rules::Kind;
+use rules::Shape;
 
 // What stands at a row and a column of a sheet.
 pub enum Meaning {
@@ -14,9 +15,10 @@ pub enum Meaning {
 }
 
 // A figure of a material stands in the columns below n.
-fn of_material(kind: Kind, n: usize, column: usize) -> Meaning
-    ensures { λ r. ⌜ meaningOf r ≡ unless 5 (ltb n column || eqb column n) kind ⌝ }
+fn of_material(kind: Kind, shape: Shape, column: usize) -> Meaning
+    ensures { λ r. ⌜ meaningOf r ≡ unless 5 (ltb (shape .materials) column || eqb column (shape .materials)) (gives kind) ⌝ }
 {
+    let n = shape.materials;
     if n <= column {
         Meaning::Nothing
     } else {
@@ -25,9 +27,10 @@ fn of_material(kind: Kind, n: usize, column: usize) -> Meaning
 }
 
 // In a limit's row, its coefficients stand in the columns below n, and its right-hand side in column n.
-fn of_limit(n: usize, column: usize) -> Meaning
-    ensures { λ r. ⌜ meaningOf r ≡ unless 5 (ltb n column) (kindAt n 3 column) ⌝ }
+fn of_limit(shape: Shape, column: usize) -> Meaning
+    ensures { λ r. ⌜ meaningOf r ≡ unless 5 (ltb (shape .materials) column) (gives (kindAt shape 3 column)) ⌝ }
 {
+    let n = shape.materials;
     if column < n {
         return Meaning::Figure(Kind::Coefficient);
     }
@@ -37,18 +40,19 @@ fn of_limit(n: usize, column: usize) -> Meaning
     Meaning::Nothing
 }
 
-// What stands at a row and a column, with n materials and m limits: the row decides what a figure means.
-pub fn meaning_at(n: usize, m: usize, row: usize, column: usize) -> Meaning
-    requires { ⌜ FewLimits m ⌝ }
-    ensures { λ r. ⌜ meaningOf r ≡ meaningAt n m row column ⌝ }
+// What stands at a row and a column: the row decides what a figure means.
+pub fn meaning_at(shape: Shape, row: usize, column: usize) -> Meaning
+    requires { ⌜ FewLimits shape ⌝ }
+    ensures { λ r. ⌜ meaningOf r ≡ meaningAt shape row column ⌝ }
 {
+    let m = shape.limits;
     match row {
-        0 => of_material(Kind::Cost, n, column),
-        1 => of_material(Kind::Least, n, column),
-        2 => of_material(Kind::Most, n, column),
+        0 => of_material(Kind::Cost, shape, column),
+        1 => of_material(Kind::Least, shape, column),
+        2 => of_material(Kind::Most, shape, column),
         3..=18 => {
             if row <= m + 2 {
-                of_limit(n, column)
+                of_limit(shape, column)
             } else {
                 Meaning::Nothing
             }

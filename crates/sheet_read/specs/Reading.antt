@@ -2,38 +2,36 @@
 use mathlib.Core.Path.{_≡_}
 use mathlib.Core.List.{List}
 use mathlib.Core.Option.{Option, none, some}
-use Prim.Native.Nat.{ℕ}
+use lib.IntN.{ℤ}
 use Rattle.rules.specs.declared.Verdict.{Verdict}
-use Rattle.rules.specs.Sheet.{Sheet, sheetOf, problem}
-use Rattle.rules.specs.Refusals.{Numbered, refusalOf, refuse, _otherwise_, firstBelow, crossed, layoutRefusal}
+use Rattle.rules.specs.Sheet.{Sheet, problem}
+use Rattle.rules.specs.Refusals.{Numbered, refusalOf, _otherwise_}
 use Rattle.sheet_figures.specs.declared.Figures.{Figures}
-use Rattle.sheet_figures.specs.Figures.{FiguresHold, figuresOf, noFigures}
+use Rattle.sheet_figures.specs.Figures.{figuresOf, coefficientsOver, noFigures}
+use Rattle.sheet_checks.specs.Bounds.{boundRefusal}
 use Rattle.sheet_store.specs.Values.{valueRefusal}
 use Rattle.sheet_read.specs.declared.Reading.{Reading}
 
 -- the figures of a sheet; where it is refused, every one is 0
 unfoldable pub figuresUnless : Option Numbered → Sheet → Figures
-figuresUnless none S = figuresOf (problem S) (S .steps)
+figuresUnless none S = figuresOf (problem S) (S .sizes .steps)
 figuresUnless (some r) S = noFigures
+
+-- the array that is lent for its coefficients, afterwards; where it is refused, as lent
+unfoldable pub coefficientsUnless : Option Numbered → Sheet → List ℤ → List ℤ
+coefficientsUnless none S lent = coefficientsOver lent (problem S)
+coefficientsUnless (some r) S lent = lent
 
 -- a verdict with no figures beside it
 unfoldable pub withoutFigures : Verdict → Reading
 withoutFigures v = record { verdict = v; figures = noFigures }
 
--- a reading of S that ends with this refusal, or with none
-pub record ReadsAs (S : Sheet) (refusal : Option Numbered) (r : Reading) : Type 0 where
+-- The reading of a sheet that ends with this refusal, or with none: the verdict, the figures, and the lent array afterwards.
+pub record Reads (S : Sheet) (refusal : Option Numbered) (lent after : List ℤ) (r : Reading) : Type 0 where
   pub verdict : refusalOf (r .verdict) ≡ refusal
   pub figures : r .figures ≡ figuresUnless refusal S
+  pub coefficients : after ≡ coefficientsUnless refusal S lent
 
--- refusal 7 of a sheet, and refusals 6 and 7
-unfoldable pub boundRefusal : Sheet → Option Numbered
-boundRefusal S = firstBelow (S .materials) (λ j. refuse 7 j (crossed S j))
-
+-- refusals 6 and 7 of a sheet
 unfoldable pub figuresRefusal : Sheet → Option Numbered
 figuresRefusal S = valueRefusal S otherwise boundRefusal S
-
--- The reading of a sheet's bytes: its refusal, its figures, and where each stands.
-pub record Reads (s : List ℕ) (r : Reading) : Type 0 where
-  pub verdict : refusalOf (r .verdict) ≡ layoutRefusal s
-  pub figures : r .figures ≡ figuresUnless (layoutRefusal s) (sheetOf s)
-  pub places : layoutRefusal s ≡ none → FiguresHold (problem (sheetOf s)) (r .figures)

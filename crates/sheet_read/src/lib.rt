@@ -1,19 +1,22 @@
 // A sheet's bytes to its figures, or to refusals 1 to 7.
 ghost use mathlib.Core.Path.{_≡_};
 ghost use Rattle.rules.specs.Sheet.{sheetOf};
+ghost use Rattle.rules.specs.Refusals.{layoutRefusal};
 ghost use Rattle.sheet_figures.specs.Figures.{noFigures};
 ghost use Rattle.sheet_checks.specs.Keys.{Keyed};
-ghost use Rattle.sheet_read.specs.Reading.{withoutFigures, ReadsAs, figuresRefusal, Reads};
+ghost use Rattle.sheet_read.specs.Reading.{withoutFigures, Reads, figuresRefusal};
 use rules::Cause;
 use rules::Verdict;
 use sheet_checks::check_bounds;
 use sheet_checks::check_keys;
 use sheet_figures::Figures;
-use sheet_header::Sizes;
+use sheet_header::Header;
+use sheet_header::HeaderRead;
 use sheet_header::check_header;
+use sheet_header::read_header;
 use sheet_header::refused;
-use sheet_header::sizes_of;
 use sheet_store::store_entries;
+use sheet_unpack::unpack;
 
 // What reading a sheet gives. Where it is refused, every figure is 0.
 pub struct Reading {
@@ -34,7 +37,6 @@ fn no_figures() -> Figures
         cost: [0; 32],
         least: [0; 32],
         most: [0; 32],
-        coefficient: [0; 512],
         rhs: [0; 16],
     }
 }
@@ -49,56 +51,46 @@ fn without_figures(verdict: Verdict) -> Reading
     }
 }
 
-// The figures, or refusal 6 or 7. The arrays have the letters of the paper.
-fn read_figures(s: &[u8], sizes: Sizes) -> Reading
-    requires { ⌜ Keyed (now s) sizes ⌝ }
-    ensures { λ r. ⌜ ReadsAs (sheetOf (now (s .entry))) (figuresRefusal (sheetOf (now (s .entry)))) r ⌝ }
+// The figures, or refusal 6 or 7.
+fn read_figures(s: &[u8], header: Header, coefficient: &mut [i16; 512]) -> Reading
+    requires { ⌜ Keyed (now s) header ⌝ }
+    ensures { λ r. ⌜ Reads (sheetOf (now (s .entry))) (figuresRefusal (sheetOf (now (s .entry))))
+        (now (coefficient .entry)) (now (coefficient .exit)) r ⌝ }
 {
-    let mut c: [i16; 32] = [0; 32];
-    let mut l: [i16; 32] = [0; 32];
-    let mut u: [i16; 32] = [0; 32];
-    let mut a: [i16; 512] = [0; 512];
-    let mut b: [i32; 16] = [0; 16];
-    let values = store_entries(s, sizes, &mut c, &mut l, &mut u, &mut a, &mut b);
+    let mut table: [i32; 646] = [0; 646];
+    let values = store_entries(s, header, &mut table);
     let Verdict::Passed = values else {
         return without_figures(values);
     };
-    let bounds = check_bounds(sizes.materials, &l, &u);
+    let sizes = header.sizes;
+    let shape = sizes.shape;
+    let bounds = check_bounds(shape.materials, &table);
     let Verdict::Passed = bounds else {
         return without_figures(bounds);
     };
+    let figures = unpack(sizes, &table, coefficient);
     Reading {
         verdict: Verdict::Passed,
-        figures: Figures {
-            materials: sizes.materials,
-            limits: sizes.limits,
-            numerator: sizes.numerator,
-            scale: sizes.scale,
-            steps: sizes.steps,
-            cost: c,
-            least: l,
-            most: u,
-            coefficient: a,
-            rhs: b,
-        },
+        figures: figures,
     }
 }
 
-// Reads a sheet.
-pub fn read_sheet(s: &[u8]) -> Reading
-    ensures { λ r. ⌜ Reads (now (s .entry)) r ⌝ }
+// Reads a sheet. Its coefficients go to a lent array, which stays as lent where the sheet is refused.
+pub fn read_sheet(s: &[u8], coefficient: &mut [i16; 512]) -> Reading
+    ensures { λ r. ⌜ Reads (sheetOf (now (s .entry))) (layoutRefusal (now (s .entry)))
+        (now (coefficient .entry)) (now (coefficient .exit)) r ⌝ }
 {
-    if s.len() < 12 {
+    let read = read_header(s);
+    let HeaderRead::Whole(header) = read else {
         return without_figures(refused(0, Cause::Short));
-    }
-    let sizes = sizes_of(s);
-    let header = check_header(s.len(), sizes);
-    let Verdict::Passed = header else {
-        return without_figures(header);
     };
-    let keys = check_keys(s, sizes);
+    let sizes = check_header(s, header);
+    let Verdict::Passed = sizes else {
+        return without_figures(sizes);
+    };
+    let keys = check_keys(s, header);
     let Verdict::Passed = keys else {
         return without_figures(keys);
     };
-    read_figures(s, sizes)
+    read_figures(s, header, coefficient)
 }

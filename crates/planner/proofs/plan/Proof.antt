@@ -3,27 +3,33 @@ use mathlib.Core.Path.{_≡_, sym, ap, _∙_}
 use mathlib.Core.List.{List}
 use mathlib.Core.Option.{none}
 use Prim.Native.Nat.{ℕ}
-use lib.ListN.{length}
+use lib.IntN.{ℤ, pos}
+use lib.ListN.{length, replicate, length-replicate}
 use borrow.Author.Needs.{needs}
 use Rattle.rules.specs.Sheet.{sheetOf, problem}
 use Rattle.rules.specs.Refusals.{layoutRefusal}
-use Rattle.sheet_figures.specs.Figures.{figuresOf}
+use Rattle.sheet_figures.specs.Figures.{figuresOf, coefficientsOver}
 use Rattle.rules.specs.Refusals.{refusalOf}
-use Rattle.sheet_read.specs.Reading.{figuresUnless}
+use Rattle.sheet_read.specs.Reading.{figuresUnless, coefficientsUnless}
 use Rattle.planner.proofs.Ending.{ends-refused, ends-same, promised}
 use Rattle.planner.proofs.Sheets.{figures-accepted, plan-is, refusal-is, turned-back}
 use Rattle.planner.proofs.plan.Statement.{statement}
 use Rattle.planner.proofs.plan.Tie as tie
+
+-- the array that is lent to the reader
+abbrev zeros : List ℤ
+zeros = replicate 512 (pos 0)
 
 returns : tie.Need-returns
 unfolding refusalOf
 returns c =
     let told = c .before in
     let read = told .before .before in
-    let s = read .before .before .before in
+    let s = read .before .before .before .before in
     promised
     (ends-refused _
-    (turned-back (s .args .sheet .now) (length (s .args .«record» .now)) (sym (read .read-sheet .ensures .verdict) ∙ ap refusalOf (told .verdict .given .1))))
+    (turned-back (s .args .sheet .now) (length (s .args .«record» .now))
+    (sym (read .read-sheet .ensures .verdict) ∙ ap refusalOf (told .verdict .given .1))))
 
 -- the sheet is read
 module _ (c : tie.After-enum-told) where
@@ -31,26 +37,32 @@ module _ (c : tie.After-enum-told) where
   read = c .before .before
 
   abbrev sheet : List ℕ
-  sheet = read .before .before .before .args .sheet .now
+  sheet = read .before .before .before .before .args .sheet .now
 
   accepted : layoutRefusal sheet ≡ none
   unfolding refusalOf
   accepted = sym (read .read-sheet .ensures .verdict) ∙ ap refusalOf (c .enum-told .given .1)
 
-  figures-are : read .read-sheet .result .figures ≡ figuresOf (problem (sheetOf sheet)) (sheetOf sheet .steps)
+  figures-are : read .read-sheet .result .figures ≡ figuresOf (problem (sheetOf sheet)) (sheetOf sheet .sizes .steps)
   unfolding figuresUnless
   figures-are = read .read-sheet .ensures .figures ∙ (λ i. figuresUnless (accepted i) (sheetOf sheet))
 
+  coefficients-are : read .read-sheet .last .1 .0 ≡ coefficientsOver zeros (problem (sheetOf sheet))
+  unfolding coefficientsUnless
+  coefficients-are = read .read-sheet .ensures .coefficients ∙ (λ i. coefficientsUnless (accepted i) (sheetOf sheet) zeros)
+
 plan-figures-requires : tie.Need-plan-figures-requires
-plan-figures-requires c κs = figures-accepted (sheet (c .before)) (accepted (c .before)) (figures-are (c .before))
+plan-figures-requires c κs =
+    let r = c .before .before in
+    figures-accepted (sheet r) (accepted r) zeros (length-replicate 512 (pos 0)) (figures-are r) (coefficients-are r)
 
 returns-2 : tie.Need-returns-2
 returns-2 c =
     let planned = c .before .before in
-    let told = planned .before .before in
-    let bytes = sheet told in
-    promised
-    (ends-same (plan-is bytes (accepted told) (figures-are told)) (refusal-is bytes (accepted told) (figures-are told) _) (planned .plan-figures .ensures))
+    let r = planned .before .before .before in
+    let same = plan-is (sheet r) (accepted r) zeros (length-replicate 512 (pos 0)) (figures-are r) (coefficients-are r) in
+    let met = refusal-is (sheet r) (accepted r) zeros (length-replicate 512 (pos 0)) (figures-are r) (coefficients-are r) _ in
+    promised (ends-same same met (planned .plan-figures .ensures))
 
 pub plan-spec : {M : Type 1} → statement M
 plan-spec =

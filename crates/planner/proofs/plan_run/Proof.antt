@@ -9,7 +9,7 @@ use Rattle.sheet_figures.specs.Figures.{problemOf}
 use Rattle.run_step.specs.States.{stateIn, stepsTaken}
 use Rattle.rules.specs.Run.{stateAfter}
 use Rattle.run_step.specs.Reached.{Reached}
-use Rattle.planner.proofs.Ending.{ends-refused, ends-same}
+use Rattle.planner.proofs.Ending.{ends-refused, ends-same, plan-in-arrays, write-ready}
 use Rattle.planner.proofs.plan_run.Statement.{statement}
 use Rattle.planner.proofs.plan_run.Tie as tie
 
@@ -28,11 +28,11 @@ module _ (c : tie.After-enum-told) where
   abbrev s : tie.Start
   s = ran .before .before
 
-  going : stepRefusal (problemOf (s .args .f)) (s .args .f .steps) ≡ none
+  going : stepRefusal (problemOf (s .args .f) (s .args .coefficient .now)) (s .args .f .steps) ≡ none
   unfolding refusalOf
   going = sym (ran .run .ensures .stop) ∙ ap refusalOf (c .enum-told .given .1)
 
-  reached : Reached (s .args .f) (s .args .f .steps) (ran .run .result .state)
+  reached : Reached (s .args .f) (s .args .coefficient .now) (s .args .f .steps) (ran .run .result .state)
   unfolding stepsTaken
   reached =
       let f = s .args .f in
@@ -40,16 +40,17 @@ module _ (c : tie.After-enum-told) where
         accepted = s .pre .accepted;
         few = le-refl _;
         going = going;
-        state = ran .run .ensures .state ∙ (λ i. stateIn (stateAfter (problemOf f) (stepsTaken (f .steps) (going i))));
+        state = ran .run .ensures .state ∙ (λ i. stateIn (stateAfter (problemOf f (s .args .coefficient .now)) (stepsTaken (f .steps) (going i))));
       }
 
 write-plan-requires : tie.Need-write-plan-requires
-write-plan-requires c κs = record { reached = reached (c .before); room = s (c .before) .pre .room }
+write-plan-requires c κs = write-ready _ _ (reached (c .before)) (s (c .before) .pre .room)
 
 returns-2 : tie.Need-returns-2
 returns-2 c =
     let wrote = c .before .before in
-    ends-same refl (sym (going (wrote .before .before))) (wrote .write-plan .ensures)
+    let told = wrote .before .before in
+    ends-same (plan-in-arrays _ _ (reached told)) (sym (going told)) (wrote .write-plan .ensures)
 
 pub plan-run-spec : {M : Type 1} → statement M
 plan-run-spec =

@@ -1,5 +1,5 @@
 -- The head and the arrays have the plan, so its record is written and its figures are answered.
-use mathlib.Core.Path.{_≡_, sym, subst, transport, _∙_}
+use mathlib.Core.Path.{_≡_, _∙_}
 use mathlib.Core.List.{_++_}
 use lib.ListN.{drop}
 use mir.Syntax.{w64}
@@ -7,18 +7,14 @@ use mir.Val.{SFits, toZ, ofZ}
 use mir.Facts.{toZ-ofZ}
 use borrow.Author.Needs.{needs}
 use Rattle.rules.specs.Notation.{at}
-use Rattle.rules.specs.Problem.{Problem, costOf}
-use Rattle.rules.specs.Run.{stateAfter, lowAfter, gapOf, planAfter}
+use Rattle.rules.specs.Run.{gapOf}
 use Rattle.rules.specs.Record.{recordOf, recordLength}
-use Rattle.proof_magnitudes.specs.RunMagnitudes.{run-magnitudes}
 use Rattle.sheet_figures.specs.declared.Figures.{Figures}
-use Rattle.sheet_figures.specs.Figures.{problemOf}
-use Rattle.run_costs.specs.Costs.{costsOnly, GapFits}
-use Rattle.run_costs.specs.OfRun.{gap-fits}
-use Rattle.run_step.specs.States.{stateIn}
-use Rattle.run_step.specs.Reached.{Reached}
-use Rattle.run_step.specs.Reads.{sums-read}
-use Rattle.planner.proofs.Ending.{ends-planned, plan-in-arrays}
+use Rattle.run_costs.specs.Costs.{costsOnly}
+use Rattle.run_step.specs.declared.State.{State}
+use Rattle.out_record.specs.RecordParts.{planIn}
+use Rattle.planner.specs.Finish.{planWith}
+use Rattle.planner.proofs.Ending.{ends-planned}
 use Rattle.planner.proofs.write_plan.Statement.{statement}
 use Rattle.planner.proofs.write_plan.Tie as tie
 
@@ -27,22 +23,8 @@ module _ (s : tie.Start) where
   abbrev f : Figures
   f = s .args .t1
 
-  abbrev P : Problem
-  P = problemOf f
-
-  reached : Reached f (f .steps) (s .args .state)
-  reached = s .pre .reached
-
-  sums-are : at (s .args .state .sums) ≡ at (stateAfter P (f .steps) .sums)
-  unfolding stateIn
-  sums-are = sums-read (reached .accepted) (f .steps) (λ k. reached .state k .sums)
-
-  low-is : toZ w64 (ofZ w64 (s .args .state .low)) ≡ lowAfter P (f .steps)
-  unfolding stateIn lowAfter
-  low-is =
-      let large = run-magnitudes (reached .accepted) (f .steps) (reached .few) (reached .going) in
-      let fits : SFits w64 (s .args .state .low) = subst (SFits w64) (λ i. sym (reached .state) i .low) (large .state .low .fits) in
-      toZ-ofZ fits ∙ (λ i. reached .state i .low)
+  abbrev w : State
+  w = s .args .state
 
 -- ---- the gap
 abbrev at-gap : tie.After-sums2 → tie.Start
@@ -51,29 +33,42 @@ at-gap c = c .before .before .before .before .before .before
 gap-requires : tie.Need-gap-requires
 gap-requires c κs =
     let s = at-gap c in
-    transport (λ k. GapFits (costsOnly (f s .materials) (f s .scale) (f s .cost)) (f s .steps) (sym (low-is s) k) (sym (sums-are s) k))
-    (gap-fits (f s) (reached s .accepted) (f s .steps) (reached s .few) (reached s .going))
+    let fits : SFits w64 (w s .low) = search needs in
+    rw (toZ-ofZ fits) (s .pre .gap)
 
 module _ (c : tie.After-gap) where
   abbrev start : tie.Start
   start = at-gap (c .before)
 
-  gap-is : toZ w64 (ofZ w64 (c .gap .result)) ≡ planAfter (P start) (f start .steps) .gap
-  unfolding planAfter gapOf costOf
+  low-is : toZ w64 (ofZ w64 (w start .low)) ≡ w start .low
+  low-is = let fits : SFits w64 (w start .low) = search needs in toZ-ofZ fits
+
+  gap-is : toZ w64 (ofZ w64 (c .gap .result)) ≡ planWith (f start) (w start) .gap
+  unfolding planWith planIn
   gap-is =
       let fits : SFits w64 (c .gap .result) = search needs in
-      toZ-ofZ fits ∙ c .gap .ensures ∙ (λ k. gapOf (P start) (f start .steps) (low-is start k) (sums-are start k))
+      let given = f start in
+      toZ-ofZ fits ∙ c .gap .ensures
+      ∙ (λ k. gapOf (costsOnly (given .materials) (given .scale) (given .cost)) (given .steps) (low-is k) (at (w start .sums)))
 
 -- ---- the record
 returns : tie.Need-returns
-unfolding planAfter
+unfolding planWith planIn
 returns c =
     let written = c .before .before in
-    let with-gap = written .before .before .before .before .before .before .before in
-    let s = start with-gap in
-    ends-planned (low-is s) (gap-is with-gap)
+    let g = written .before .before .before .before .before .before .before in
+    let s = start g in
+    ends-planned (low-is g) (gap-is g)
     (written .write-record .ensures
-    ∙ (λ i. recordOf (plan-in-arrays (f s) (reached s) (low-is s) (gap-is with-gap) i) ++ drop (recordLength (f s .materials) (f s .limits)) (s .args .«record» .now)))
+    ∙ (λ i.
+    recordOf (planIn (record {
+      materials = f s .materials;
+      limits = f s .limits;
+      steps = f s .steps;
+      low = low-is g i;
+      gap = gap-is g i;
+    }) (w s .sums) (w s .multipliers) (w s .totals))
+    ++ drop (recordLength (f s .materials) (f s .limits)) (s .args .«record» .now)))
 
 pub write-plan-spec : {M : Type 1} → statement M
 write-plan-spec = tie.close (tie.spec gap-requires (λ c κs. search needs) (search needs) returns)

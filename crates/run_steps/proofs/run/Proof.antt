@@ -24,20 +24,20 @@ use Rattle.run_steps.proofs.run.Statement.{statement}
 use Rattle.run_steps.proofs.run.Tie as tie
 
 abbrev Inv-loop : tie.InvT-loop
-Inv-loop f k greatest low r₀ t₀ r t = (r .stop ≡ Passed) × Reached f t (r .state)
+Inv-loop a f k greatest low r₀ t₀ r t = (r .stop ≡ Passed) × Reached f a t (r .state)
 
 abbrev μ-loop : tie.MeasureT-loop
-μ-loop f k greatest low r₀ t₀ r t = k - t
+μ-loop a f k greatest low r₀ t₀ r t = k - t
 
 greatest-value-requires : tie.Need-greatest-value-requires Inv-loop μ-loop
 greatest-value-requires c κs =
     let s = c .before .before .before .before in
-    greatest-fits (s .args .t1) (s .pre)
+    greatest-fits (s .args .t1) (s .args .coefficient .now) (s .pre)
 
 cheapest-value-requires : tie.Need-cheapest-value-requires Inv-loop μ-loop
 cheapest-value-requires c κs =
     let s = c .before .before .before .before .before .before .before .before .before in
-    cheapest-fits (s .args .t1) (s .pre)
+    cheapest-fits (s .args .t1) (s .args .coefficient .now) (s .pre)
 
 -- from the cheapest cost back to the greatest, and to the figures
 module _ (c : tie.After-cheapest-value Inv-loop μ-loop) where
@@ -52,8 +52,9 @@ loop-holds : tie.Need-loop-holds Inv-loop μ-loop
 unfolding stepRefusal stateIn stateAfter start startingMultiplier cheapestCost costOf
 loop-holds c =
     let f = s c .args .t1 in
+    let a = s c .args .coefficient .now in
     let fits : SFits w64 (c .cheapest-value .result) = search needs in
-    let low = toZ-ofZ fits ∙ c .cheapest-value .ensures ∙ sym (opening-low (problemOf f) (s c .pre .scale-some)) in (
+    let low = toZ-ofZ fits ∙ c .cheapest-value .ensures ∙ sym (opening-low (problemOf f a) (s c .pre .scale-some)) in (
       refl,
       record {
         accepted = s c .pre;
@@ -79,14 +80,16 @@ returns : tie.Need-returns Inv-loop μ-loop
 returns c =
     let stepped = c .before .before in
     let loop = stepped .before .before .before in
-    let f = s (loop .before) .args .t1 in
-    hands-on (problemOf f) (loop .loop .inv .1 .going) (stepped .step .ensures) (f .steps) (omega arith) (c .enum-told2 .given .1)
+    let given = s (loop .before) .args in
+    let f = given .t1 in
+    hands-on (problemOf f (given .coefficient .now)) (loop .loop .inv .1 .going) (stepped .step .ensures) (f .steps) (omega arith) (c .enum-told2 .given .1)
 
 loop-again : tie.Need-loop-again Inv-loop μ-loop
 loop-again c =
     let stepped = c .before .before in
     let reached = stepped .before .before .before .loop .inv .1 in
-    let P = problemOf (s (stepped .before .before .before .before) .args .t1) in
+    let given = s (stepped .before .before .before .before) .args in
+    let P = problemOf (given .t1) (given .coefficient .now) in
     let going = c .enum-told .given .1 in (
       going,
       record {
@@ -100,9 +103,10 @@ loop-again c =
 returns-2 : tie.Need-returns-2 Inv-loop μ-loop
 returns-2 c =
     let loop = c .before .loop in
-    let f = s (c .before .before) .args .t1 in
+    let given = s (c .before .before) .args in
+    let f = given .t1 in
     let all : loop .t ≡ f .steps = omega (arith, loop .inv .1 .few) in
-    hands-state (problemOf f) (f .steps) (loop .inv .0) (rw all at (loop .inv .1 .going)) (rw all at (loop .inv .1 .state))
+    hands-state (problemOf f (given .coefficient .now)) (f .steps) (loop .inv .0) (rw all at (loop .inv .1 .going)) (rw all at (loop .inv .1 .state))
 
 pub run-spec : {M : Type 1} → statement M
 run-spec =

@@ -7,63 +7,84 @@ use Prim.Native.Nat.{ℕ, _-_, _≤_}
 use native.Mathlib.Omega.{arith}
 use lib.IntN.{ℤ}
 use lib.Signed.{ltZ}
-use mir.Syntax.{w16}
+use mir.Syntax.{w32}
 use mir.Val.{SFits, toZ, ofZ}
 use mir.Facts.{toZ-ofZ}
 use borrow.Author.Needs.{needs}
 use Rattle.rules.specs.Notation.{at}
 use Rattle.rules.specs.Refusals.{numberOf, numbered, refusalOf}
 use Rattle.proof_laws.specs.FirstPlace.{first-start, first-end, scan, scan-more, scan-found}
+use Rattle.sheet_table.specs.Tabled.{placeAt}
 use Rattle.sheet_checks.specs.Bounds.{crossedAt, crossedRefusal}
 use Rattle.sheet_checks.proofs.check_bounds.Statement.{statement}
 use Rattle.sheet_checks.proofs.check_bounds.Tie as tie
 
 abbrev Inv-loop : tie.InvT-loop
-Inv-loop n least most j₀ j = (j ≤ n) × (scan 7 (crossedAt least most) j ≡ none)
+Inv-loop n table j₀ j = (j ≤ n) × (scan 7 (crossedAt table) j ≡ none)
 
 abbrev μ-loop : tie.MeasureT-loop
-μ-loop n least most j₀ j = n - j
+μ-loop n table j₀ j = n - j
 
 loop-holds : tie.Need-loop-holds Inv-loop μ-loop
 loop-holds c = (omega arith, first-start _)
 
--- ---- the test at material j compares the amounts as they stand in the arrays
-module _ (c : tie.After-if13 Inv-loop μ-loop) where
-  abbrev turn : tie.At-loop Inv-loop μ-loop
-  turn = c .before .before .before
+-- ---- a turn: the amounts of material j stand in the table
+module _ (c : tie.In-loop Inv-loop μ-loop) where
+  abbrev table : List ℤ
+  table = c .before .before .args .table .now
+
+  abbrev n : ℕ
+  n = c .before .before .args .n
 
   abbrev j : ℕ
-  j = turn .loop .j
+  j = c .before .loop .j
 
-  abbrev least : List ℤ
-  least = turn .before .args .least .now
+  narrow : n ≤ 32
+  narrow = c .before .before .pre .narrow
 
-  abbrev most : List ℤ
-  most = turn .before .args .most .now
+place-at-requires : tie.Need-place-at-requires Inv-loop μ-loop
+place-at-requires c κs = record { row-in = omega arith; column-in = omega (arith, narrow c) }
 
-  before : scan 7 (crossedAt least most) j ≡ none
-  before = turn .loop .inv .1
+least-inside : tie.Need-element-copy-out-least Inv-loop μ-loop
+least-inside c = omega (arith, narrow (c .before), c .place-at .ensures)
 
-  test-is : (b : Bool) → ltZ (toZ w16 (ofZ w16 (at most j))) (toZ w16 (ofZ w16 (at least j))) ≡ b
-      → crossedAt least most j ≡ b
+place-at-requires-2 : tie.Need-place-at-requires-2 Inv-loop μ-loop
+place-at-requires-2 c κs =
+    let turn = c .before .before in
+    record { row-in = omega arith; column-in = omega (arith, narrow turn) }
+
+most-inside : tie.Need-element-copy-out-most Inv-loop μ-loop
+most-inside c = omega (arith, narrow (c .before .before .before), c .place-at2 .ensures)
+
+-- the test compares them as they stand there
+module _ (c : tie.After-most Inv-loop μ-loop) where
+  abbrev turn : tie.In-loop Inv-loop μ-loop
+  turn = c .before .before .before .before
+
+  before : scan 7 (crossedAt (table turn)) (j turn) ≡ none
+  before = turn .before .loop .inv .1
+
+  test-is : (b : Bool) → ltZ (toZ w32 (ofZ w32 (at (table turn) (c .before .place-at2 .result))))
+      (toZ w32 (ofZ w32 (at (table turn) (c .before .before .before .place-at .result)))) ≡ b
+      → crossedAt (table turn) (j turn) ≡ b
   test-is b h =
-      let least-fits : SFits w16 (at least j) = search needs in
-      let most-fits : SFits w16 (at most j) = search needs in
-      simp (toZ-ofZ most-fits, toZ-ofZ least-fits) at h
+      let most-fits : SFits w32 (at (table turn) (c .before .place-at2 .result)) = search needs in
+      let least-fits : SFits w32 (at (table turn) (c .before .before .before .place-at .result)) = search needs in
+      rw (← c .before .place-at2 .ensures, ← c .before .before .before .place-at .ensures)
+      (simp (toZ-ofZ most-fits, toZ-ofZ least-fits) at h)
 
 returns : tie.Need-returns Inv-loop μ-loop
 unfolding refusalOf numbered numberOf crossedRefusal
 returns c =
     let taken = c .before in
     let a = taken .before in
-    let n = turn a .before .args .n in
     ap refusalOf (c .refused .ensures)
-    ∙ sym (scan-found 7 (crossedAt (least a) (most a)) n (omega arith) (before a) (test-is a true (taken .if1 .taken)))
+    ∙ sym (scan-found 7 (crossedAt (table (turn a))) (n (turn a)) (omega arith) (before a) (test-is a true (taken .if1 .taken)))
 
 loop-again : tie.Need-loop-again Inv-loop μ-loop
 loop-again c =
     let a = c .before in
-    (omega arith, scan-more 7 (crossedAt (least a) (most a)) (before a) (test-is a false (c .if1 .left)))
+    (omega arith, scan-more 7 (crossedAt (table (turn a))) (before a) (test-is a false (c .if1 .left)))
 
 returns-2 : tie.Need-returns-2 Inv-loop μ-loop
 unfolding refusalOf crossedRefusal
@@ -79,10 +100,12 @@ check-bounds-spec =
     Inv-loop
     μ-loop
     loop-holds
+    place-at-requires
     (search needs)
+    least-inside
+    place-at-requires-2
     (search needs)
-    (search needs)
-    (search needs)
+    most-inside
     (search needs)
     returns
     (search needs)

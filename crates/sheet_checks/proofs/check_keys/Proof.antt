@@ -2,16 +2,19 @@
 use mathlib.Core.Path.{_≡_, refl, sym, ap, _∙_}
 use mathlib.Core.Bool.{false}
 use mathlib.Core.Option.{none}
-use Prim.Native.Nat.{ℕ, _-_, _≤_}
+use mathlib.Core.List.{List}
+use Prim.Native.Nat.{ℕ, _+_, _-_, _*_, _≤_}
 use native.Mathlib.Omega.{arith}
 use borrow.Author.Needs.{needs}
+use Rattle.rules.specs.Bytes.{unsignedAt}
 use Rattle.rules.specs.Sheet.{Sheet, sheetOf}
 use Rattle.rules.specs.Refusals.{numberOf, numbered, refusalOf, badKey}
 use Rattle.proof_laws.specs.FirstPlace.{first-start, first-end, scan, scan-more, scan-found}
-use Rattle.sheet_kinds.specs.Read.{unless, gives-says, refused-says}
-use Rattle.sheet_entries.specs.KeyRead.{keyOf, keyRead}
+use Rattle.proof_laws.specs.Read.{gives, unless, gives-says, same-gives, refused-says}
+use Rattle.sheet_entries.specs.KeyRead.{keyAnswered, keyRead}
 use Rattle.sheet_checks.specs.Keys.{keyRefusal}
-use Rattle.sheet_header.specs.Header.{entries-is, in-range}
+use Rattle.sheet_header.specs.declared.Header.{Header}
+use Rattle.sheet_header.specs.Header.{Headed}
 use Rattle.sheet_checks.proofs.Floor.{floorOf, floor-next, key-test}
 use Rattle.sheet_checks.proofs.check_keys.Statement.{statement}
 use Rattle.sheet_checks.proofs.check_keys.Tie as tie
@@ -22,19 +25,23 @@ record Turn (S : Sheet) (e floor i : ℕ) : Type 0 where
   floor-is : floor ≡ floorOf S i
 
 abbrev Inv-loop : tie.InvT-loop
-Inv-loop s n m e floor₀ i₀ floor i = Turn (sheetOf s) e floor i
+Inv-loop s shape keys e floor₀ i₀ floor i = Turn (sheetOf s) e floor i
 
 abbrev μ-loop : tie.MeasureT-loop
-μ-loop s n m e floor₀ i₀ floor i = e - i
+μ-loop s shape keys e floor₀ i₀ floor i = e - i
 
 loop-holds : tie.Need-loop-holds Inv-loop μ-loop
 unfolding floorOf
 loop-holds c = record { within = omega arith; keys = first-start _; floor-is = refl }
 
+-- e, as it was read
+count : {s : List ℕ} {h : Header} → Headed s h → h .entries ≡ sheetOf s .entries
+count h = ap (λ (g : Header). g .entries) (h .is)
+
 -- ---- a turn: entry i
 module _ (c : tie.In-loop Inv-loop μ-loop) where
   abbrev start : tie.Start Inv-loop μ-loop
-  start = c .before .before .before
+  start = c .before .before .before .before .before
 
   abbrev S : Sheet
   S = sheetOf (start .args .s .now)
@@ -42,34 +49,39 @@ module _ (c : tie.In-loop Inv-loop μ-loop) where
   abbrev i : ℕ
   i = c .before .loop .i
 
-  abbrev turn : Turn S (start .args .sizes .entries) (c .before .loop .floor) i
+  abbrev turn : Turn S (start .args .header .entries) (c .before .loop .floor) i
   turn = c .before .loop .inv
 
 read-key-requires : tie.Need-read-key-requires Inv-loop μ-loop
-read-key-requires c κs = record { few = in-range (start (c .before) .pre) .few }
+read-key-requires c κs = record { few = start (c .before) .pre .in-range .few }
 
 -- ---- what was read is its key
 module _ (c : tie.After-read-key Inv-loop μ-loop) where
   abbrev here : tie.In-loop Inv-loop μ-loop
   here = c .before .before
 
-  read-is : keyOf (c .read-key .result) ≡ unless 5 (badKey (S here) (i here)) (S here .key (i here))
+  key-read : c .before .size-at .result ≡ S here .key (i here)
+  key-read =
+      let keys = ap (λ (h : Header). h .length) (start here .pre .is) in
+      c .before .size-at .ensures .is ∙ ap (λ at. unsignedAt 2 (start here .args .s .now) (at + 2 * i here)) keys
+
+  read-is : keyAnswered (c .read-key .result) ≡ unless 5 (badKey (S here) (i here)) (gives (S here .key (i here)))
   unfolding keyRead
   read-is =
-      let z = start here .pre .sizes in
+      let h = start here .pre .is in
       c .read-key .ensures
-      ∙ (λ j. keyRead (z j .materials) (z j .limits) (turn here .floor-is j) (c .before .size-at .ensures .is j))
-      ∙ (λ j. unless 5 (key-test (S here) (i here) j) (S here .key (i here)))
+      ∙ (λ j. keyRead (h j .sizes .shape) (turn here .floor-is j) (key-read j))
+      ∙ (λ j. unless 5 (key-test (S here) (i here) j) (gives (S here .key (i here))))
 
 returns : tie.Need-returns Inv-loop μ-loop
-unfolding refusalOf numbered numberOf keyRefusal keyOf
+unfolding refusalOf numbered numberOf keyRefusal keyAnswered
 returns c =
     let told = c .before in
     let read = told .before .before in
     let a = here read in
-    let bad = refused-says 5 5 _ _ (sym (read-is read) ∙ ap keyOf (told .enum-told .given .1)) in
+    let bad = refused-says 5 5 _ _ (sym (read-is read) ∙ ap keyAnswered (told .enum-told .given .1)) in
     ap refusalOf (c .refused .ensures)
-    ∙ sym (scan-found 5 (badKey (S a)) (S a .entries) (omega (arith, entries-is (start a .pre))) (turn a .keys) bad)
+    ∙ sym (scan-found 5 (badKey (S a)) (S a .entries) (omega (arith, count (start a .pre))) (turn a .keys) bad)
 
 -- ---- the key is good
 module _ (c : tie.After-known-told Inv-loop μ-loop) where
@@ -79,30 +91,36 @@ module _ (c : tie.After-known-told Inv-loop μ-loop) where
   abbrev key : ℕ
   key = c .before .read .given .0 .0
 
-  good : (badKey (S (here read)) (i (here read)) ≡ false) × (S (here read) .key (i (here read)) ≡ key)
-  unfolding keyOf
-  good = gives-says 5 _ _ _ (sym (read-is read) ∙ ap keyOf (c .before .read .given .1))
+  says : (badKey (S (here read)) (i (here read)) ≡ false) × (gives (S (here read) .key (i (here read))) ≡ gives key)
+  unfolding keyAnswered
+  says = gives-says 5 _ _ _ (sym (read-is read) ∙ ap keyAnswered (c .before .read .given .1))
+
+  good : badKey (S (here read)) (i (here read)) ≡ false
+  good = says .0
+
+  key-is : S (here read) .key (i (here read)) ≡ key
+  key-is = same-gives _ _ (says .1)
 
 add-floor : tie.Need-add-floor Inv-loop μ-loop
 add-floor c =
     let size = read c .before .size-at .ensures in
-    omega (arith, good c .1, size .is, size .small)
+    omega (arith, key-is c, key-read (read c), size .small)
 
 loop-again : tie.Need-loop-again Inv-loop μ-loop
 loop-again c =
     let a = here (read c) in
     record {
       within = omega arith;
-      keys = scan-more 5 (badKey (S a)) (turn a .keys) (good c .0);
-      floor-is = omega (arith, floor-next (S a) (i a), good c .1);
+      keys = scan-more 5 (badKey (S a)) (turn a .keys) (good c);
+      floor-is = omega (arith, floor-next (S a) (i a), key-is c);
     }
 
 returns-2 : tie.Need-returns-2 Inv-loop μ-loop
 unfolding refusalOf keyRefusal
 returns-2 c =
     let ended = c .before in
-    let start = ended .before .before in
-    let all : ended .loop .i ≡ sheetOf (start .args .s .now) .entries = omega (arith, entries-is (start .pre)) in
+    let start = ended .before .before .before .before in
+    let all : ended .loop .i ≡ sheetOf (start .args .s .now) .entries = omega (arith, count (start .pre)) in
     sym (first-end _ all (ended .loop .inv .keys))
 
 pub check-keys-spec : {M : Type 1} → statement M

@@ -1,67 +1,92 @@
 -- Each test that fails ends in its own link of the chain; e, in its range, keeps the length small.
 use mathlib.Core.Path.{_≡_, sym, ap, _∙_}
 use mathlib.Core.Bool.{true, not}
+use mathlib.Core.List.{List}
 use Prim.Native.Nat.{ℕ}
 use native.Mathlib.Omega.{arith}
 use borrow.Author.Needs.{needs}
 use borrow.Author.Tests.{eq-eqb, ne-eqb, not-false}
 use lib.Dec.{eqb}
-use Rattle.rules.specs.Sheet.{sheetLength}
+use lib.ListN.{length}
+use Rattle.rules.specs.Sheet.{Sheet, headerLength, sheetLength, sheetOf}
 use Rattle.rules.specs.Ranges.{dimensionsInRange, parametersInRange}
 use Rattle.rules.specs.Refusals.{numberOf, numbered, refusalOf, refuse, _otherwise_}
-use Rattle.proof_laws.specs.Sizes.{dimensions}
+use Rattle.proof_laws.specs.Sizes.{SizesInRange, dimensions, short-header}
 use Rattle.proof_laws.specs.FirstPlace.{refuse-yes, refuse-no, given, handed-on}
-use Rattle.sheet_header.specs.declared.Sizes.{Sizes}
-use Rattle.sheet_header.specs.Header.{headerRefusal}
+use Rattle.sheet_header.specs.declared.Header.{Header}
+use Rattle.sheet_header.specs.Header.{headerOf, headerRefusal}
 use Rattle.sheet_header.proofs.check_header.Statement.{statement}
 use Rattle.sheet_header.proofs.check_header.Tie as tie
+
+-- ---- the first test, of the sheet's own n, m and e
+module _ (c : tie.After-dimensions-in-range) where
+  abbrev start : tie.Start
+  start = c .before .before .before .before
+
+  abbrev s : List ℕ
+  s = start .args .s .now
+
+  abbrev S : Sheet
+  S = sheetOf s
+
+  is : start .args .header ≡ headerOf s
+  is = start .pre .is
+
+  tested : dimensionsInRange (S .sizes .shape) (S .entries) ≡ c .dimensions-in-range .result
+  tested = sym (c .dimensions-in-range .ensures ∙ (λ i. dimensionsInRange (is i .sizes .shape) (is i .entries)))
 
 returns : tie.Need-returns
 unfolding refusalOf numbered numberOf headerRefusal
 returns c =
     let taken = c .before in
-    let out = ap not (sym (taken .before .dimensions-in-range .ensures)) ∙ taken .if1 .taken in
-    ap refusalOf (c .refused .ensures) ∙ sym (given _ (refuse-yes 2 0 out))
+    ap refusalOf (c .refused .ensures)
+    ∙ sym (given _ (refuse-yes 2 0 (ap not (tested (taken .before)) ∙ taken .if1 .taken)))
 
 -- ---- n, m and e lie in their ranges
 module _ (c : tie.Else1) where
-  abbrev bytes : ℕ
-  bytes = c .before .before .args .bytes
+  abbrev first : tie.After-dimensions-in-range
+  first = c .before
 
-  abbrev sizes : Sizes
-  sizes = c .before .before .args .sizes
+  in-range : SizesInRange (S first .sizes .shape) (S first .entries)
+  in-range = dimensions _ _ (tested first ∙ not-false _ (c .if1 .left))
 
-  dimensions-in : dimensionsInRange (sizes .materials) (sizes .limits) (sizes .entries) ≡ true
-  dimensions-in = sym (c .before .dimensions-in-range .ensures) ∙ not-false _ (c .if1 .left)
-
-  after-dimensions : headerRefusal bytes sizes
-      ≡ refuse 3 0 (not (eqb bytes (sheetLength (sizes .entries))))
-      otherwise refuse 4 0 (not (parametersInRange (sizes .numerator) (sizes .scale) (sizes .steps)))
+  after-dimensions : headerRefusal (s first)
+      ≡ refuse 3 0 (not (eqb (length (s first)) (sheetLength (S first .entries))))
+      otherwise refuse 4 0 (not (parametersInRange (S first .sizes)))
   unfolding headerRefusal
-  after-dimensions = handed-on _ (refuse-no 2 0 (ap not dimensions-in))
+  after-dimensions = handed-on _ (refuse-no 2 0 (ap not (tested first ∙ not-false _ (c .if1 .left))))
+
+  entries-is : start first .args .header .entries ≡ S first .entries
+  entries-is = ap (λ (h : Header). h .entries) (is first)
+
+  keys-at : start first .args .header .length ≡ headerLength
+  keys-at = ap (λ (h : Header). h .length) (is first)
 
 mul-if2 : tie.Need-mul-if2
-mul-if2 c = let d = dimensions _ _ _ (dimensions-in c) in record { fits = omega arith }
+mul-if2 c = record { fits = omega (arith, entries-is c, in-range c .entries) }
 
 add-if2 : tie.Need-add-if2
-add-if2 c = let d = dimensions _ _ _ (dimensions-in c) in record { fits = omega arith }
+add-if2 c = record { fits = omega (arith, entries-is c, in-range c .entries, keys-at c, short-header) }
 
 returns-2 : tie.Need-returns-2
 unfolding refusalOf numbered numberOf
 returns-2 c =
     let taken = c .before in
     let d = taken .before in
-    let out = ap not (ne-eqb (bytes d) (sheetLength (sizes d .entries)) (λ q. taken .if2 .taken (omega arith))) in
+    let out = ap not (ne-eqb (length (s (first d))) (sheetLength (S (first d) .entries))
+    (λ q. taken .if2 .taken (omega (arith, entries-is d, keys-at d)))) in
     ap refusalOf (c .refused2 .ensures) ∙ sym (after-dimensions d ∙ given _ (refuse-yes 3 0 out))
 
 -- ---- and the length fits
 after-length : (c : tie.After-parameters-in-range) → let d = c .before .before in
-    headerRefusal (bytes d) (sizes d) ≡ refuse 4 0 (not (c .parameters-in-range .result))
+    headerRefusal (s (first d)) ≡ refuse 4 0 (not (c .parameters-in-range .result))
 after-length c =
     let d = c .before .before in
-    let length-is = c .before .if2 .left in
-    let fits = ap not (eq-eqb (bytes d) (sheetLength (sizes d .entries)) (omega arith)) in
+    let f = first d in
+    let long = c .before .if2 .left in
+    let fits = ap not (eq-eqb (length (s f)) (sheetLength (S f .entries)) (omega (arith, entries-is d, keys-at d))) in
     after-dimensions d ∙ handed-on _ (refuse-no 3 0 fits)
+    ∙ (λ i. refuse 4 0 (not (parametersInRange (sym (is f) i .sizes))))
     ∙ ap (λ b. refuse 4 0 (not b)) (sym (c .parameters-in-range .ensures))
 
 returns-3 : tie.Need-returns-3

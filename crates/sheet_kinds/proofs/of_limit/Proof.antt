@@ -3,7 +3,7 @@ use native.Mathlib.Omega.{arith}
 use borrow.Author.Tests.{lt-ltb, le-ltb, eq-eqb, ne-eqb}
 use Rattle.rules.specs.Ranges.{kindAt}
 use Rattle.sheet_kinds.specs.Meaning.{meaningOf}
-use Rattle.sheet_kinds.specs.Read.{unless}
+use Rattle.proof_laws.specs.Read.{unless}
 use Rattle.sheet_kinds.proofs.of_limit.Statement.{statement}
 use Rattle.sheet_kinds.proofs.of_limit.Tie as tie
 
@@ -11,19 +11,19 @@ returns : tie.Need-returns
 unfolding meaningOf unless kindAt
 returns c =
     let a = c .before .args in
-    rw (le-ltb (a .n) (a .column) (omega arith), ne-eqb (a .column) (a .n) (λ e. omega arith))
+    rw (le-ltb (a .shape .materials) (a .column) (omega arith), ne-eqb (a .column) (a .shape .materials) (λ e. omega arith))
 
 returns-2 : tie.Need-returns-2
 unfolding meaningOf unless kindAt
 returns-2 c =
     let a = c .before .before .args in
-    rw (le-ltb (a .n) (a .column) (omega arith), eq-eqb (a .column) (a .n) (omega arith))
+    rw (le-ltb (a .shape .materials) (a .column) (omega arith), eq-eqb (a .column) (a .shape .materials) (omega arith))
 
 returns-3 : tie.Need-returns-3
 unfolding meaningOf unless
 returns-3 c =
     let a = c .before .before .args in
-    rw (lt-ltb (a .n) (a .column) (omega arith))
+    rw (lt-ltb (a .shape .materials) (a .column) (omega arith))
 
 pub of-limit-spec : {M : Type 1} → statement M
 of-limit-spec = tie.close (tie.spec returns returns-2 returns-3)

@@ -1,57 +1,52 @@
--- The arrays begin empty and end with the sheet's figures, unless a value or a least amount is refused.
-use mathlib.Core.Path.{_≡_, refl, sym, ap, _∙_}
+-- The table begins empty and ends with the sheet's, unless a value or a least amount is refused; then it is unpacked.
+use mathlib.Core.Path.{_≡_, refl, sym, ap, transport, _∙_}
 use mathlib.Core.List.{List}
 use mathlib.Core.Option.{none}
-use Prim.Native.Nat.{ℕ}
+use Prim.Native.Nat.{ℕ, _≤_}
 use native.Mathlib.Omega.{arith}
-use lib.IntN.{ℤ}
 use borrow.Author.Needs.{needs}
-use Rattle.rules.specs.declared.Kind.{Kind}
-use Rattle.rules.specs.declared.Kind.the-variants.{Cost, Least, Most, Coefficient, Rhs}
+use borrow.Author.Tests.{le-ltb}
+use lib.IntN.{ℤ}
+use lib.ListN.{length}
+use Rattle.rules.specs.declared.Sizes.{Sizes}
 use Rattle.rules.specs.declared.Verdict.{Verdict}
-use Rattle.rules.specs.Sheet.{Sheet, sheetOf, problem}
-use Rattle.rules.specs.Refusals.{refusalOf}
+use Rattle.rules.specs.Problem.{Problem}
+use Rattle.rules.specs.Sheet.{Sheet, headerLength, sheetOf, valueUnder, tableOf, problemFrom, problem}
+use Rattle.rules.specs.Refusals.{refusalOf, layoutRefusal}
+use Rattle.proof_laws.specs.Agreeing.{Agree}
 use Rattle.proof_laws.specs.FirstPlace.{given, handed-on}
-use Rattle.sheet_figures.specs.Figures.{figuresOf}
-use Rattle.sheet_figures.specs.Places.{roomOf}
-use Rattle.sheet_header.specs.Header.{Headed, entries-is, in-range, sheet-in-range}
-use Rattle.sheet_store.specs.Values.{storedBy, arrayAfter, valueRefusal, arrayIn, none-stored, all-stored}
-use Rattle.sheet_checks.specs.Bounds.{crossedRefusal}
-use Rattle.sheet_read.specs.Reading.{boundRefusal, figuresRefusal}
-use Rattle.sheet_read.proofs.Chain.{crossed-is}
+use Rattle.proof_magnitudes.specs.Accepted.{Accepted, accepted, accepted-same}
+use Rattle.sheet_table.specs.Tabled.{tabled, tableIn, tabled-zero, table-agrees}
+use Rattle.sheet_figures.specs.Figures.{figuresOf, coefficientsOver, figures-same, coefficients-same}
+use Rattle.sheet_header.specs.declared.Header.{Header}
+use Rattle.sheet_header.specs.Header.{Headed, headerOf}
+use Rattle.sheet_checks.specs.Bounds.{crossedRefusal, boundRefusal, crossed-is}
+use Rattle.sheet_store.specs.Values.{storedBy, valueRefusal}
+use Rattle.sheet_read.specs.Reading.{figuresRefusal}
+use Rattle.sheet_read.proofs.Chain.{after-keys}
 use Rattle.sheet_read.proofs.Outcome.{turned-back, read-whole}
 use Rattle.sheet_read.proofs.read_figures.Statement.{statement}
 use Rattle.sheet_read.proofs.read_figures.Tie as tie
 
--- ---- the start, before the five arrays are made
-abbrev start-of : tie.After-b → tie.Start
-start-of c = c .before .before .before .before .before .before
-
 store-entries-requires : tie.Need-store-entries-requires
-unfolding roomOf
-store-entries-requires c κs =
-    let S = sheetOf (start-of c .args .s .now) in
-    record {
-      keyed = start-of c .pre;
-      empty = record {
-        costs = sym (none-stored S Cost);
-        leasts = sym (none-stored S Least);
-        mosts = sym (none-stored S Most);
-        coefficients = sym (none-stored S Coefficient);
-        right-hand-sides = sym (none-stored S Rhs);
-      };
-    }
+store-entries-requires c κs = record { keyed = c .before .before .pre; empty = sym tabled-zero }
 
 -- ---- the entries are stored, or one is refused
 module _ (c : tie.After-store-entries) where
   abbrev start : tie.Start
-  start = start-of (c .before)
+  start = c .before .before .before
+
+  abbrev s : List ℕ
+  s = start .args .s .now
 
   abbrev S : Sheet
-  S = sheetOf (start .args .s .now)
+  S = sheetOf s
 
-  abbrev header : Headed (start .args .s .now) (start .args .sizes)
-  header = start .pre .headed
+  abbrev headed : Headed s (start .args .header)
+  headed = start .pre .headed
+
+  abbrev is : start .args .header ≡ headerOf s
+  is = headed .is
 
 returns : tie.Need-returns
 unfolding refusalOf figuresRefusal
@@ -62,7 +57,7 @@ returns c =
     turned-back (S stored) (stored .store-entries .result) (c .without-figures .ensures) told
     (given _ (sym (stored .store-entries .ensures .0) ∙ told))
 
--- ---- the values are good: the arrays hold all entries
+-- ---- the values are good: the table holds all entries
 module _ (c : tie.After-enum-told) where
   abbrev stored : tie.After-store-entries
   stored = c .before .before
@@ -71,40 +66,38 @@ module _ (c : tie.After-enum-told) where
   unfolding refusalOf
   values = sym (stored .store-entries .ensures .0) ∙ ap refusalOf (c .enum-told .given .1)
 
-  abbrev count : ℕ
-  count = storedBy (stored .store-entries .result) (start stored .args .sizes .entries)
-
-  all : count ≡ S stored .entries
+  all : storedBy (stored .store-entries .result) (start stored .args .header .entries) ≡ S stored .entries
   unfolding storedBy
   all =
-      ap (λ (v : Verdict). storedBy v (start stored .args .sizes .entries)) (c .enum-told .given .1)
-      ∙ entries-is (header stored)
+      ap (λ (v : Verdict). storedBy v (start stored .args .header .entries)) (c .enum-told .given .1)
+      ∙ (λ j. is stored j .entries)
 
-  -- the array of each kind is that of the figures
-  filled : (kind : Kind) {array : List ℤ} → array ≡ arrayAfter (S stored) kind count
-      → array ≡ arrayIn (figuresOf (problem (S stored)) (S stored .steps)) kind
-  filled kind e = e ∙ ap (arrayAfter (S stored) kind) all ∙ all-stored (S stored) kind
+  -- the lent table afterwards
+  abbrev table : List ℤ
+  table = stored .store-entries .last .1 .1 .0
+
+  table-is : table ≡ tabled (tableOf (S stored))
+  table-is = stored .store-entries .ensures .1 ∙ ap (λ e. tabled (valueUnder (S stored) e)) all
 
 check-bounds-requires : tie.Need-check-bounds-requires
 check-bounds-requires c κs =
-    let d = in-range (header (stored (c .before .before))) in
-    record { narrow = omega arith }
+    let good = c .before .before .before in
+    record { narrow = headed (stored good) .in-range .narrow }
 
 -- ---- refusals 6 and 7, in the definition's terms
 module _ (c : tie.After-check-bounds) where
   abbrev good : tie.After-enum-told
-  good = c .before .before .before
+  good = c .before .before .before .before
+
+  narrow : S (stored good) .sizes .shape .materials ≤ 32
+  narrow = transport (λ j. is (stored good) j .sizes .shape .materials ≤ 32) (headed (stored good) .in-range .narrow)
 
   bounds : refusalOf (c .check-bounds .result) ≡ figuresRefusal (S (stored good))
-  unfolding figuresRefusal figuresOf problem
+  unfolding figuresRefusal
   bounds =
-      let h = header (stored good) in
-      let arrays = stored good .store-entries .ensures .1 in
-      let least = filled good Least (arrays .leasts) in
-      let most = filled good Most (arrays .mosts) in
       c .check-bounds .ensures
-      ∙ (λ j. crossedRefusal (h .sizes j .materials) (least j) (most j))
-      ∙ crossed-is (S (stored good)) (sheet-in-range h .narrow)
+      ∙ (λ j. crossedRefusal (is (stored good) j .sizes .shape .materials) (table-is good j))
+      ∙ crossed-is (S (stored good)) (record { narrow = narrow })
       ∙ sym (handed-on (boundRefusal (S (stored good))) (values good))
 
 returns-2 : tie.Need-returns-2
@@ -116,27 +109,58 @@ returns-2 c =
     turned-back (S (stored (good checked))) (checked .check-bounds .result) (c .without-figures2 .ensures) told
     (sym (bounds checked) ∙ told)
 
+-- ---- nothing is refused: the figures are accepted, and the table has them
+module _ (c : tie.After-enum-told3) where
+  abbrev checked : tie.After-check-bounds
+  checked = c .before .before
+
+  abbrev at-store : tie.After-store-entries
+  at-store = stored (good checked)
+
+  abbrev z : Sizes
+  z = S at-store .sizes
+
+  none-refused : figuresRefusal (S at-store) ≡ none
+  unfolding refusalOf
+  none-refused = sym (bounds checked) ∙ ap refusalOf (c .enum-told3 .given .1)
+
+  followed : layoutRefusal (s at-store) ≡ none
+  followed =
+      let h = headed at-store in
+      let long : headerLength ≤ length (s at-store) = omega (arith, h .long, ap (λ (g : Header). g .length) (h .is)) in
+      after-keys (s at-store) (le-ltb _ _ long) (h .passed) (start at-store .pre .keys) ∙ none-refused
+
+  ranged : Accepted (problem (S at-store)) (z .steps)
+  ranged = accepted (s at-store) followed
+
+  few : z .shape .limits ≤ 16
+  few = transport (λ j. is at-store j .sizes .shape .limits ≤ 16) (headed at-store .in-range .few)
+
+  same : Agree (problemFrom z (tableIn (tabled (tableOf (S at-store))))) (problem (S at-store))
+  same = table-agrees z (tableOf (S at-store)) (narrow checked) few
+
+unpack-requires : tie.Need-unpack-requires
+unpack-requires c κs =
+    let told = c .before .before in
+    let st = at-store told in
+    transport
+    (λ j. let h = sym (is st) j in Accepted (problemFrom (h .sizes) (tableIn (sym (table-is (good (checked told))) j))) (h .sizes .steps))
+    (accepted-same (same told) (ranged told))
+
 returns-3 : tie.Need-returns-3
-unfolding refusalOf figuresOf problem
+unfolding refusalOf
 returns-3 c =
-    let checked = c .before .before in
-    let g = good checked in
-    let z = header (stored g) .sizes in
-    let arrays = stored g .store-entries .ensures .1 in
-    read-whole (S (stored g)) refl (sym (bounds checked) ∙ ap refusalOf (c .enum-told3 .given .1))
-    (λ j.
-    record {
-      materials = z j .materials;
-      limits = z j .limits;
-      numerator = z j .numerator;
-      scale = z j .scale;
-      steps = z j .steps;
-      cost = filled g Cost (arrays .costs) j;
-      least = filled g Least (arrays .leasts) j;
-      most = filled g Most (arrays .mosts) j;
-      coefficient = filled g Coefficient (arrays .coefficients) j;
-      rhs = filled g Rhs (arrays .right-hand-sides) j;
-    })
+    let told = c .before .before .before in
+    let st = at-store told in
+    let t = table-is (good (checked told)) in
+    let lent = start st .args .coefficient .now in
+    read-whole (S st) refl (none-refused told)
+    (c .unpack .ensures .0
+    ∙ (λ j. let h = is st j in figuresOf (problemFrom (h .sizes) (tableIn (t j))) (h .sizes .steps))
+    ∙ figures-same (same told) (z told .steps))
+    (c .unpack .ensures .1
+    ∙ (λ j. let h = is st j in coefficientsOver lent (problemFrom (h .sizes) (tableIn (t j))))
+    ∙ coefficients-same (same told) lent)
 
 pub read-figures-spec : {M : Type 1} → statement M
 read-figures-spec =
@@ -152,4 +176,5 @@ read-figures-spec =
     (search needs)
     (search needs)
     returns-2
+    unpack-requires
     returns-3)

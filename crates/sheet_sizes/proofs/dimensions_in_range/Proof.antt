@@ -7,20 +7,20 @@ use lib.Dec.{leb}
 use borrow.Author.Needs.{needs}
 use borrow.Author.Tests.{le-leb, leb-true}
 use Rattle.rules.specs.Ranges.{between, mostEntries, dimensionsInRange}
-use Rattle.proof_laws.specs.Sizes.{few-entries}
+use Rattle.proof_laws.specs.Sizes.{largest, few-entries}
 use Rattle.sheet_sizes.proofs.dimensions_in_range.Statement.{statement}
 use Rattle.sheet_sizes.proofs.dimensions_in_range.Tie as tie
 
 -- n and m in their ranges leave so few entries that no sum wraps
-few : (n m : ℕ) → (between 1 32 n && between 0 16 m) ≡ true → n * (m + 3) + m ≤ mostEntries 32 16
+few : (n m : ℕ) → (between 1 32 n && between 0 16 m) ≡ true → n * (m + 3) + m ≤ mostEntries largest
 unfolding between
 few n m h =
     let both = simp and-eq-true-iff at h in
-    few-entries (omega (arith, leb-true)) (omega (arith, leb-true))
+    few-entries {shape = record { materials = n; limits = m }} (omega (arith, leb-true)) (omega (arith, leb-true))
 
 -- the test that the code has passed, as the definition has it
 passed : (c : tie.Then1) → let a = c .before .before .before .args in
-    (between 1 32 (a .n) && between 0 16 (a .m)) ≡ true
+    (between 1 32 (a .shape .materials) && between 0 16 (a .shape .limits)) ≡ true
 passed c = rw (c .before .before .between .ensures, c .before .between2 .ensures) at (c .if1 .taken)
 
 add-result : tie.Need-add-result

@@ -1,106 +1,116 @@
 -- The values of the entries below i are good and stored.
-use mathlib.Core.Path.{_≡_, sym, ap, _∙_}
-use mathlib.Core.Bool.{false}
+use mathlib.Core.Path.{_≡_, sym, ap, transport, _∙_}
+use mathlib.Core.Bool.{Bool, true, false}
 use mathlib.Core.List.{List}
 use mathlib.Core.Option.{none}
-use Prim.Native.Nat.{ℕ, _+_, _-_, _≤_, _<_}
+use Prim.Native.Nat.{ℕ, _+_, _-_, _*_, _≤_, _<_}
 use native.Mathlib.Omega.{arith}
-use lib.IntN.{ℤ}
+use lib.IntN.{ℤ, pos}
+use lib.ListN.{set}
 use mir.Syntax.{w32}
 use mir.Val.{SFits, toZ, ofZ}
 use mir.Facts.{toZ-ofZ}
 use borrow.Author.Needs.{needs}
-use Rattle.rules.specs.declared.Kind.{Kind}
-use Rattle.rules.specs.declared.Kind.the-variants.{Cost, Least, Most, Coefficient, Rhs}
-use Rattle.rules.specs.Bytes.{signedAt}
-use Rattle.rules.specs.Sheet.{Sheet, sheetOf}
-use Rattle.rules.specs.Refusals.{numberOf, numbered, refusalOf, badValue}
-use Rattle.proof_laws.specs.Sizes.{SizesInRange}
-use Rattle.proof_laws.specs.FirstPlace.{first-start, first-end, scan, scan-more, scan-found}
-use Rattle.sheet_kinds.specs.Read.{gives, refused-says}
-use Rattle.sheet_entries.specs.EntryRead.{Placed, entryOf, entryRead}
-use Rattle.sheet_entries.specs.Store.{Storable, storeIf}
 use Rattle.rules.specs.declared.Verdict.{Verdict}
-use Rattle.sheet_checks.specs.Keys.{noFigureFor, figure-there}
-use Rattle.sheet_store.specs.Values.{Stored, storedBy, valueRefusal, arrayAfter}
-use Rattle.sheet_header.specs.Header.{Headed, entries-is, in-range, sheet-in-range}
-use Rattle.sheet_store.proofs.Stored.{value-test, readAt, entry-good, entry-fits, entry-stored}
+use Rattle.rules.specs.Bytes.{unsignedAt, signedAt}
+use Rattle.rules.specs.Sheet.{Sheet, sheetOf, rowOf, columnOf, valueUnder}
+use Rattle.rules.specs.Refusals.{numberOf, numbered, refusalOf, badValue}
+use Rattle.proof_laws.specs.Read.{Read, gives, unless, unless-no, gives-says, same-gives, refused-says}
+use Rattle.proof_laws.specs.Sizes.{SizesInRange}
+use Rattle.proof_laws.specs.Entries.{noFigureFor}
+use Rattle.proof_laws.specs.FirstPlace.{first-start, first-end, scan, scan-more, scan-found}
+use Rattle.sheet_entries.specs.EntryRead.{entryAnswered, entryRead}
+use Rattle.sheet_header.specs.declared.Header.{Header}
+use Rattle.sheet_header.specs.Header.{Headed, headerOf}
+use Rattle.sheet_table.specs.Tabled.{InTable, placeAt, place-below, tabled, figure-in-table}
+use Rattle.sheet_checks.specs.Keys.{figure-there}
+use Rattle.sheet_store.specs.Values.{storedBy, valueRefusal, entry-stored}
 use Rattle.sheet_store.proofs.store_entries.Statement.{statement}
 use Rattle.sheet_store.proofs.store_entries.Tie as tie
 
-record Turn (S : Sheet) (e : ℕ) (cost least most coefficient rhs : List ℤ) (i : ℕ) : Type 0 where
+record Turn (S : Sheet) (e : ℕ) (table : List ℤ) (i : ℕ) : Type 0 where
   within : i ≤ e
   values : scan 6 (badValue S) i ≡ none
-  arrays : Stored S i cost least most coefficient rhs
-
--- the same arrays, with the count of entries told another way
-counted : {S : Sheet} {i k : ℕ} {cost least most coefficient rhs : List ℤ}
-    → i ≡ k → Stored S i cost least most coefficient rhs → Stored S k cost least most coefficient rhs
-counted e h = rw e at h
+  stored : table ≡ tabled (valueUnder S i)
 
 abbrev Inv-loop : tie.InvT-loop
-Inv-loop s cost₀ least₀ most₀ coefficient₀ rhs₀ n m e i₀ cost least most coefficient rhs i =
-    Turn (sheetOf s) e cost least most coefficient rhs i
+Inv-loop s table₀ shape keys e i₀ table i = Turn (sheetOf s) e table i
 
 abbrev μ-loop : tie.MeasureT-loop
-μ-loop s cost₀ least₀ most₀ coefficient₀ rhs₀ n m e i₀ cost least most coefficient rhs i = e - i
+μ-loop s table₀ shape keys e i₀ table i = e - i
 
 loop-holds : tie.Need-loop-holds Inv-loop μ-loop
-loop-holds c = record { within = omega arith; values = first-start _; arrays = c .before .pre .empty }
+unfolding valueUnder
+loop-holds c =
+    let start = c .before .before .before in
+    record { within = omega arith; values = first-start _; stored = start .pre .empty }
 
 -- ---- a turn: entry i, whose key stands for a figure
 module _ (c : tie.In-loop Inv-loop μ-loop) where
   abbrev start : tie.Start Inv-loop μ-loop
-  start = c .before .before .before
+  start = c .before .before .before .before .before
 
-  abbrev header : Headed (start .args .s .now) (start .args .sizes)
-  header = start .pre .keyed .headed
+  abbrev s : List ℕ
+  s = start .args .s .now
+
+  abbrev h : Headed s (start .args .header)
+  h = start .pre .keyed .headed
 
   abbrev S : Sheet
-  S = sheetOf (start .args .s .now)
+  S = sheetOf s
 
   abbrev i : ℕ
   i = c .before .loop .i
 
+  count : start .args .header .entries ≡ S .entries
+  count = ap (λ (g : Header). g .entries) (h .is)
+
+  sizes : SizesInRange (S .sizes .shape) (S .entries)
+  sizes = transport (λ j. let g = h .is j in SizesInRange (g .sizes .shape) (g .entries)) (h .in-range)
+
   inside : i < S .entries
-  inside = omega (arith, entries-is header)
+  inside = omega (arith, count)
 
   there : noFigureFor S i ≡ false
   there = figure-there (start .pre .keyed) i inside
 
-  sizes : SizesInRange (S .materials) (S .limits) (S .entries)
-  sizes = sheet-in-range header
-
 read-entry-requires : tie.Need-read-entry-requires Inv-loop μ-loop
-read-entry-requires c κs = record { few = in-range (header (c .before .before)) .few }
+read-entry-requires c κs = record { few = h (c .before .before) .in-range .few }
 
 -- ---- what was read is that entry
 module _ (c : tie.After-read-entry Inv-loop μ-loop) where
   abbrev here : tie.In-loop Inv-loop μ-loop
   here = c .before .before .before
 
-  read-is : entryOf (c .read-entry .result) ≡ readAt (S here) (i here)
-  read-is =
-      let z = header here .sizes in
+  key-read : c .before .before .size-at .result ≡ S here .key (i here)
+  key-read =
+      c .before .before .size-at .ensures .is ∙ (λ j. unsignedAt 2 (s here) (h here .is j .length + 2 * i here))
+
+  value-read : toZ w32 (ofZ w32 (c .before .signed-32 .result)) ≡ S here .value (i here)
+  value-read =
       let number = c .before .signed-32 in
       let fits : SFits w32 (number .result) = search needs in
-      let same : toZ w32 (ofZ w32 (number .result)) ≡ S here .value (i here)
-      = toZ-ofZ fits ∙ number .ensures ∙ ap (signedAt 4 (start here .args .s .now)) (omega (arith, entries-is (header here))) in
+      toZ-ofZ fits ∙ number .ensures
+      ∙ (λ j. let g = h here .is j in signedAt 4 (s here) (g .length + 2 * g .entries + 4 * i here))
+
+  read-is : entryAnswered (c .read-entry .result) ≡ unless 6 (badValue (S here) (i here)) (gives (S here .value (i here)))
+  unfolding entryRead badValue
+  read-is =
       c .read-entry .ensures
-      ∙ (λ j. entryRead (z j .materials) (z j .limits) (c .before .before .size-at .ensures .is j) (same j))
+      ∙ (λ j. entryRead (h here .is j .sizes .shape) (key-read j) (value-read j))
+      ∙ unless-no 5 _ (there here)
 
 returns : tie.Need-returns Inv-loop μ-loop
-unfolding refusalOf numbered numberOf valueRefusal storedBy entryOf entryRead
+unfolding refusalOf numbered numberOf valueRefusal storedBy entryAnswered
 returns c =
     let told = c .before in
     let entry = told .before .before in
     let a = here entry in
     let turn = a .before .loop .inv in
-    let said = refused-says 6 6 _ _ (sym (read-is entry) ∙ ap entryOf (told .enum-told .given .1)) in
-    let bad = sym (value-test (S a) (i a) (there a)) ∙ said in
+    let bad = refused-says 6 _ _ _ (sym (read-is entry) ∙ ap entryAnswered (told .enum-told .given .1)) in
     let found = scan-found 6 (badValue (S a)) (S a .entries) (inside a) (turn .values) bad in
-    let all = ap (λ (v : Verdict). storedBy v (start a .args .sizes .entries)) (c .refused .ensures) in
-    (ap refusalOf (c .refused .ensures) ∙ sym found, counted (sym all) (turn .arrays))
+    let all = ap (λ (v : Verdict). storedBy v (start a .args .header .entries)) (c .refused .ensures) in
+    (ap refusalOf (c .refused .ensures) ∙ sym found, turn .stored ∙ ap (λ k. tabled (valueUnder (S a) k)) (sym all))
 
 -- ---- the entry is good, and goes to its place
 module _ (c : tie.After-known-told Inv-loop μ-loop) where
@@ -110,63 +120,51 @@ module _ (c : tie.After-known-told Inv-loop μ-loop) where
   abbrev a : tie.In-loop Inv-loop μ-loop
   a = here entry
 
-  abbrev placed : Placed
-  placed =
-      let figure = c .before .entry .given .0 in
-      record { kind = figure .0; place = figure .1 .0; value = figure .1 .1 .0 }
+  abbrev value : ℤ
+  value = c .before .entry .given .0 .0
 
-  read : readAt (S a) (i a) ≡ gives placed
-  unfolding entryOf
-  read = sym (read-is entry) ∙ ap entryOf (c .before .entry .given .1)
+  says : (badValue (S a) (i a) ≡ false) × (gives (S a .value (i a)) ≡ gives value)
+  unfolding entryAnswered
+  says = gives-says 6 _ _ _ (sym (read-is entry) ∙ ap entryAnswered (c .before .entry .given .1))
 
-  value-kept : toZ w32 (ofZ w32 (placed .value)) ≡ placed .value
-  value-kept = let fits : SFits w32 (placed .value) = search needs in toZ-ofZ fits
+  value-kept : toZ w32 (ofZ w32 value) ≡ S a .value (i a)
+  value-kept = let fits : SFits w32 value = search needs in toZ-ofZ fits ∙ sym (same-gives _ _ (says .1))
 
-  good : badValue (S a) (i a) ≡ false
-  good = entry-good (S a) (i a) (sizes a) (there a) read
+  in-table : InTable (rowOf (S a .key (i a))) (columnOf (S a .key (i a)))
+  in-table = figure-in-table _ _ (sizes a) (there a)
 
-  fits : Storable (placed .kind) (placed .place) (placed .value)
-  fits = entry-fits (S a) (i a) (sizes a) (there a) read
+place-at-requires : tie.Need-place-at-requires Inv-loop μ-loop
+place-at-requires c κs = rw (key-read (entry c)) (in-table c)
 
-  after : (mine : Kind) {array new : List ℤ}
-      → new ≡ storeIf mine (placed .kind) (placed .place) (toZ w32 (ofZ w32 (placed .value))) array
-      → array ≡ arrayAfter (S a) mine (i a) → new ≡ arrayAfter (S a) mine (i a + 1)
-  after mine {array} h e =
-      h ∙ (λ j. storeIf mine (placed .kind) (placed .place) (value-kept j) array)
-      ∙ entry-stored (S a) (i a) (sizes a) (there a) read mine e
+-- its place
+place-is : (c : tie.After-place-at Inv-loop μ-loop) → let t = c .before in
+    c .place-at .result ≡ placeAt (rowOf (S (a t) .key (i (a t)))) (columnOf (S (a t) .key (i (a t))))
+place-is c = c .place-at .ensures ∙ ap (λ key. placeAt (rowOf key) (columnOf key)) (key-read (entry (c .before)))
 
--- it was told before the five arrays were lent
-abbrev told-before : tie.After-store-arg5 Inv-loop μ-loop → tie.After-known-told Inv-loop μ-loop
-told-before c = c .before .before .before .before .before
-
-store-requires : tie.Need-store-requires Inv-loop μ-loop
-store-requires c κs = let told = told-before c in rw (value-kept told) (fits told)
+place-inside : tie.Need-element-set-from-value Inv-loop μ-loop
+place-inside c = rw (place-is c) (place-below (in-table (c .before)))
 
 loop-again : tie.Need-loop-again Inv-loop μ-loop
 loop-again c =
-    let told = told-before (c .before) in
+    let told = c .before in
     let turn = a told .before .loop .inv in
-    let (cost, (least, (most, (coefficient, rhs)))) = c .store .ensures in
     record {
       within = omega arith;
-      values = scan-more 6 (badValue (S (a told))) (turn .values) (good told);
-      arrays = record {
-        costs = after told Cost cost (turn .arrays .costs);
-        leasts = after told Least least (turn .arrays .leasts);
-        mosts = after told Most most (turn .arrays .mosts);
-        coefficients = after told Coefficient coefficient (turn .arrays .coefficients);
-        right-hand-sides = after told Rhs rhs (turn .arrays .right-hand-sides);
-      };
+      values = scan-more 6 (badValue (S (a told))) (turn .values) (says told .0);
+      stored =
+          (λ j. set (turn .stored j) (place-is c j) (value-kept told j))
+          ∙ entry-stored (S (a told)) (i (a told)) (in-table told);
     }
 
 returns-2 : tie.Need-returns-2 Inv-loop μ-loop
 unfolding refusalOf valueRefusal storedBy
 returns-2 c =
     let ended = c .before in
-    let start = ended .before .before in
-    let all : ended .loop .i ≡ start .args .sizes .entries = omega arith in (
-      sym (first-end _ (all ∙ entries-is (start .pre .keyed .headed)) (ended .loop .inv .values)),
-      counted all (ended .loop .inv .arrays),
+    let start = ended .before .before .before .before in
+    let count = ap (λ (g : Header). g .entries) (start .pre .keyed .headed .is) in
+    let all : ended .loop .i ≡ start .args .header .entries = omega arith in (
+      sym (first-end _ (all ∙ count) (ended .loop .inv .values)),
+      ended .loop .inv .stored ∙ ap (λ k. tabled (valueUnder (sheetOf (start .args .s .now)) k)) all,
     )
 
 pub store-entries-spec : {M : Type 1} → statement M
@@ -189,7 +187,9 @@ store-entries-spec =
     (search needs)
     (search needs)
     returns
-    store-requires
+    place-at-requires
+    (search needs)
+    place-inside
     (search needs)
     (search needs)
     loop-again

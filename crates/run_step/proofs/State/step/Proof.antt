@@ -38,8 +38,11 @@ module _ (s : tie.Start) where
   abbrev f : Figures
   f = s .args .t2
 
+  abbrev a : List ℤ
+  a = s .args .coefficient .now
+
   abbrev P : Problem
-  P = problemOf f
+  P = problemOf f a
 
   abbrev t : ℕ
   t = s .args .t
@@ -67,13 +70,13 @@ module _ (s : tie.Start) where
 
 -- ---- the look
 abbrev s-look : tie.After-g → tie.Start
-s-look c = c .before .before .before .before .before .before .before .before .before .before
+s-look c = c .before .before .before .before .before .before .before .before .before
 
 look-at-requires : tie.Need-look-at-requires
 look-at-requires c κs =
     let s = s-look c in
-    subst (λ (M : ℕ → ℤ). LookFits (lookedAt (f s)) M (replicate 32 (pos 0)) (replicate 16 (pos 0))) (sym (M-is s))
-    (look-fits (f s) (accepted s) (t s) (large s))
+    subst (λ (M : ℕ → ℤ). LookFits (lookedAt (f s) (a s)) M (replicate 32 (pos 0)) (replicate 16 (pos 0))) (sym (M-is s))
+    (look-fits (f s) (a s) (accepted s) (t s) (large s))
 
 module _ (c : tie.After-look-at) where
   abbrev s-q : tie.Start
@@ -86,9 +89,9 @@ module _ (c : tie.After-look-at) where
   abbrev g : List ℤ
   g = c .look-at .last .1 .1 .1 .1 .1 .1 .1 .1 .1 .1 .0
 
-  q-is : lookAt (lookedAt (f s-q)) (at (s-q .args .self .multipliers)) ≡ lookAfter (P s-q) (t s-q)
+  q-is : lookAt (lookedAt (f s-q) (a s-q)) (at (s-q .args .self .multipliers)) ≡ lookAfter (P s-q) (t s-q)
   unfolding lookAfter
-  q-is = same-look (f s-q) (at (s-q .args .self .multipliers)) ∙ (λ k. lookAt (P s-q) (M-is s-q k))
+  q-is = same-look (f s-q) (a s-q) (at (s-q .args .self .multipliers)) ∙ (λ k. lookAt (P s-q) (M-is s-q k))
 
   x-reads : at x ≡ amounts (P s-q) (t s-q)
   x-reads =
@@ -125,7 +128,7 @@ move-multipliers-requires : tie.Need-move-multipliers-requires
 move-multipliers-requires c κs =
     let q = q-move c in
     let s = s-q q in
-    transport (λ k. MoveFits (limitsMoved (f s .limits) (f s .numerator)) (sym (M-is s) k) (sym (g-reads q) k)) (move-fits (f s) (accepted s) (t s) (large s))
+    transport (λ k. MoveFits (limitsMoved (f s .limits) (f s .numerator)) (sym (M-is s) k) (sym (g-reads q) k)) (move-fits (f s) (a s) (accepted s) (t s) (large s))
 
 module _ (c : tie.After-move-multipliers) where
   abbrev at-q : tie.After-look-at
@@ -174,13 +177,13 @@ add-amounts-requires : tie.Need-add-amounts-requires
 add-amounts-requires c κs =
     let e = c .before .before in
     let s = s-e e in
-    transport (λ k. TotalsFit w32 32 (f s .materials) (sym (sums-are s) k) (sym (x-reads (q-e e)) k)) (sums-fit (f s) (accepted s) (t s) (large s))
+    transport (λ k. TotalsFit w32 32 (f s .materials) (sym (sums-are s) k) (sym (x-reads (q-e e)) k)) (sums-fit (f s) (a s) (accepted s) (t s) (large s))
 
 add-residuals-requires : tie.Need-add-residuals-requires
 add-residuals-requires c κs =
     let e = c .before .before .before .before .before in
     let s = s-e e in
-    transport (λ k. TotalsFit w64 16 (f s .limits) (sym (totals-are s) k) (sym (g-reads (q-e e)) k)) (totals-fit (f s) (accepted s) (t s) (large s))
+    transport (λ k. TotalsFit w64 16 (f s .limits) (sym (totals-are s) k) (sym (g-reads (q-e e)) k)) (totals-fit (f s) (a s) (accepted s) (t s) (large s))
 
 -- ---- the state after the step
 module _ (c : tie.After-larger) where

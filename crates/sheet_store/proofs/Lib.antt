@@ -1,3 +1,0 @@
--- What the proof uses.
---   Stored   what storing one entry more changes
-pub mod Stored
