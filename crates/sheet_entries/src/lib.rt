@@ -41,7 +41,9 @@ pub fn read_entry(shape: Shape, key: usize, value: i32) -> EntryValue
     requires { ⌜ FewLimits shape ⌝ }
     ensures { λ r. ⌜ entryAnswered r ≡ entryRead shape key value ⌝ }
 {
-    let meaning = meaning_at(shape, key / 64, key % 64);
+    let row = key / 64;
+    let column = key % 64;
+    let meaning = meaning_at(shape, row, column);
     let Meaning::Figure(kind) = meaning else {
         return EntryValue::Bad(Cause::Key);
     };

@@ -27,7 +27,8 @@ pub fn dimensions_in_range(shape: Shape, e: usize) -> bool
 pub fn parameters_in_range(sizes: Sizes) -> bool
     ensures { λ r. ⌜ r ≡ parametersInRange sizes ⌝ }
 {
-    between(1, 1024, sizes.numerator)
-        & between(1, 1024, sizes.scale)
-        & between(1, 4096, sizes.steps)
+    let p = sizes.numerator;
+    let d = sizes.scale;
+    let k = sizes.steps;
+    between(1, 1024, p) & between(1, 1024, d) & between(1, 4096, k)
 }

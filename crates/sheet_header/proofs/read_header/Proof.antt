@@ -10,7 +10,7 @@ use Rattle.sheet_header.proofs.read_header.Tie as tie
 
 returns : tie.Need-returns
 unfolding headerAnswered headerRead headerLength
-returns c = sym (unless-yes 1 _ (lt-ltb _ 12 (c .if1 .taken)))
+returns c = sym (unless-yes 1 _ (lt-ltb _ _ (c .if1 .taken)))
 
 returns-2 : tie.Need-returns-2
 unfolding headerAnswered headerRead headerLength
@@ -29,9 +29,9 @@ returns-2 c =
         steps = c5 .size-at5 .ensures .is i;
       };
       entries = c .size-at6 .ensures .is i;
-      length = 12;
+      length = headerLength;
     }))
-    ∙ sym (unless-no 1 _ (le-ltb _ 12 long))
+    ∙ sym (unless-no 1 _ (le-ltb _ _ long))
 
 pub read-header-spec : {M : Type 1} → statement M
 read-header-spec =
