@@ -7,7 +7,7 @@ use lib.Dec.{ltb}
 use lib.IntN.{ℤ}
 use lib.ListN.{length}
 use Rattle.rules.specs.Problem.{Problem}
-use Rattle.rules.specs.Sheet.{sheetOf, problemFrom, problem}
+use Rattle.rules.specs.Sheet.{sheetOf, problem}
 use Rattle.rules.specs.Run.{planAfter}
 use Rattle.rules.specs.Record.{recordLength}
 use Rattle.rules.specs.Refusals.{Numbered, refuse, _otherwise_, layoutRefusal}

@@ -4,17 +4,19 @@ use Prim.Native.String.{String}
 use mathlib.Core.Path.{_≡_, refl}
 use mathlib.Core.List.{List, [], _∷_, _++_, map}
 use mathlib.Core.Option.{none}
-use lib.ListN.{getD, replicate}
+use lib.ListN.{length, getD, replicate}
 use lib.IntN.{pos}
 use native.Mathlib.Omega.{arith}
 use Rattle.rules.specs.Notation.{neg}
 use Rattle.rules.specs.declared.Answer.the-variants.{Plan, Refused}
 use Rattle.rules.specs.declared.Kind.{Kind}
 use Rattle.rules.specs.declared.Range.{Range}
+use Rattle.rules.specs.declared.Sizes.{Sizes}
 use Rattle.rules.specs.declared.Cause.{Cause}
 use Rattle.rules.specs.declared.Cause.the-variants.{Short, Dimensions, Length, Parameters, Key, Value, Bounds, Buffer, Infeasible, Diverged}
-use Rattle.rules.specs.Bytes.{signedAt, unsignedBytes}
+use Rattle.rules.specs.Bytes.{signedAt, unsignedBytes, laid}
 use Rattle.rules.specs.Sheet.{headerLength, sheetLength}
+use Rattle.rules.specs.Encoder.{sizesWith}
 use Rattle.rules.specs.Ranges.{ranges, indexOf, rangeOf, mostEntries}
 use Rattle.rules.specs.Record.{recordLength, longestRecord}
 use Rattle.rules.specs.Refusals.{layoutRefusal}
@@ -137,6 +139,11 @@ signed-bytes = refl
 pub largest-sizes : layoutRefusal (encode 32 16 1024 1024 4096 []) ≡ none
 unfolding Holds
 largest-sizes = refl
+
+-- what is written of the sizes is as long as the header
+pub header-length : (z : Sizes) (e : ℕ) → length (laid (unsignedBytes 2) (sizesWith z e)) ≡ headerLength
+unfolding laid unsignedBytes headerLength
+header-length z e = refl
 
 -- the length of a sheet: 12 bytes, and 6 for each entry
 pub sheet-length : (e : ℕ) → sheetLength e ≡ 12 + 6 * e

@@ -18,7 +18,7 @@ put xs from (suc n) f = set (put xs from n f) (from + n) (f n)
 pub length-put : (xs : List ℤ) (from n : ℕ) (f : ℕ → ℤ) → length (put xs from n f) ≡ length xs
 unfolding put
 length-put xs from zero f = refl
-length-put xs from (suc n) f = length-set (put xs from n f) (from + n) (f n) ∙ length-put xs from n f
+length-put xs from (suc n) f = length-set (put xs from n f) _ _ ∙ length-put xs from n f
 
 -- only the first n figures count
 pub put-cong : (xs : List ℤ) (from n : ℕ) (f g : ℕ → ℤ) → ((j : ℕ) → j < n → f j ≡ g j) → put xs from n f ≡ put xs from n g
@@ -33,7 +33,7 @@ pub put-other : (xs : List ℤ) (from n : ℕ) (f : ℕ → ℤ) (x : ℕ) → (
 unfolding put
 put-other xs from zero f x h = refl
 put-other xs from (suc n) f x h =
-    getD-set-other (put xs from n f) (from + n) x (f n) _ (h n (lt-suc-self n))
+    getD-set-other (put xs from n f) (from + n) x _ _ (h n (lt-suc-self n))
     ∙ put-other xs from n f x (λ j l. h j (le-step l))
 
 -- and figure j stands j places on
@@ -56,7 +56,7 @@ putRows xs (suc m) n f = put (putRows xs m n f) (32 * m) n (f m)
 pub length-rows : (xs : List ℤ) (m n : ℕ) (f : ℕ → ℕ → ℤ) → length (putRows xs m n f) ≡ length xs
 unfolding putRows
 length-rows xs zero n f = refl
-length-rows xs (suc m) n f = length-put (putRows xs m n f) (32 * m) n (f m) ∙ length-rows xs m n f
+length-rows xs (suc m) n f = length-put (putRows xs m n f) _ n (f m) ∙ length-rows xs m n f
 
 pub rows-cong : (xs : List ℤ) (m n : ℕ) (f g : ℕ → ℕ → ℤ) → ((i j : ℕ) → i < m → j < n → f i j ≡ g i j)
     → putRows xs m n f ≡ putRows xs m n g

@@ -6,10 +6,10 @@ use Prim.Native.Nat.{ℕ, _+_}
 use native.Mathlib.Numerals.{add-one}
 use borrow.Author.Tests.{eq-eqb, ne-eqb}
 use lib.IntN.{ℤ, pos}
-use lib.ListN.{set, replicate}
+use lib.ListN.{set}
 use Rattle.rules.specs.declared.Verdict.{Verdict}
 use Rattle.rules.specs.declared.Verdict.the-variants.{Passed, Refused}
-use Rattle.rules.specs.Sheet.{Sheet, sheetOf, rowOf, columnOf, valueUnder}
+use Rattle.rules.specs.Sheet.{Sheet, rowOf, columnOf, valueUnder}
 use Rattle.rules.specs.Refusals.{Numbered, refuse, firstBelow, badValue}
 use Rattle.proof_laws.specs.Entries.{parts-key}
 use Rattle.sheet_header.specs.declared.Header.{Header}

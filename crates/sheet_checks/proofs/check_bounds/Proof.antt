@@ -14,7 +14,6 @@ use borrow.Author.Needs.{needs}
 use Rattle.rules.specs.Notation.{at}
 use Rattle.rules.specs.Refusals.{numberOf, numbered, refusalOf}
 use Rattle.proof_laws.specs.FirstPlace.{first-start, first-end, scan, scan-more, scan-found}
-use Rattle.sheet_table.specs.Tabled.{placeAt}
 use Rattle.sheet_checks.specs.Bounds.{crossedAt, crossedRefusal}
 use Rattle.sheet_checks.proofs.check_bounds.Statement.{statement}
 use Rattle.sheet_checks.proofs.check_bounds.Tie as tie

@@ -10,7 +10,6 @@ use lib.IntN.{ℤ}
 use lib.ListN.{length}
 use Rattle.rules.specs.declared.Sizes.{Sizes}
 use Rattle.rules.specs.declared.Verdict.{Verdict}
-use Rattle.rules.specs.Problem.{Problem}
 use Rattle.rules.specs.Sheet.{Sheet, headerLength, sheetOf, valueUnder, tableOf, problemFrom, problem}
 use Rattle.rules.specs.Refusals.{refusalOf, layoutRefusal}
 use Rattle.proof_laws.specs.Agreeing.{Agree}

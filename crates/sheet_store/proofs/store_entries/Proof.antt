@@ -1,11 +1,11 @@
 -- The values of the entries below i are good and stored.
 use mathlib.Core.Path.{_≡_, sym, ap, transport, _∙_}
-use mathlib.Core.Bool.{Bool, true, false}
+use mathlib.Core.Bool.{false}
 use mathlib.Core.List.{List}
 use mathlib.Core.Option.{none}
 use Prim.Native.Nat.{ℕ, _+_, _-_, _*_, _≤_, _<_}
 use native.Mathlib.Omega.{arith}
-use lib.IntN.{ℤ, pos}
+use lib.IntN.{ℤ}
 use lib.ListN.{set}
 use mir.Syntax.{w32}
 use mir.Val.{SFits, toZ, ofZ}
@@ -15,13 +15,13 @@ use Rattle.rules.specs.declared.Verdict.{Verdict}
 use Rattle.rules.specs.Bytes.{unsignedAt, signedAt}
 use Rattle.rules.specs.Sheet.{Sheet, sheetOf, rowOf, columnOf, valueUnder}
 use Rattle.rules.specs.Refusals.{numberOf, numbered, refusalOf, badValue}
-use Rattle.proof_laws.specs.Read.{Read, gives, unless, unless-no, gives-says, same-gives, refused-says}
+use Rattle.proof_laws.specs.Read.{gives, unless, unless-no, gives-says, same-gives, refused-says}
 use Rattle.proof_laws.specs.Sizes.{SizesInRange}
 use Rattle.proof_laws.specs.Entries.{noFigureFor}
 use Rattle.proof_laws.specs.FirstPlace.{first-start, first-end, scan, scan-more, scan-found}
 use Rattle.sheet_entries.specs.EntryRead.{entryAnswered, entryRead}
 use Rattle.sheet_header.specs.declared.Header.{Header}
-use Rattle.sheet_header.specs.Header.{Headed, headerOf}
+use Rattle.sheet_header.specs.Header.{Headed}
 use Rattle.sheet_table.specs.Tabled.{InTable, placeAt, place-below, tabled, figure-in-table}
 use Rattle.sheet_checks.specs.Keys.{figure-there}
 use Rattle.sheet_store.specs.Values.{storedBy, valueRefusal, entry-stored}

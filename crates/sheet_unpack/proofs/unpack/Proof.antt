@@ -1,5 +1,5 @@
 -- Figures that are accepted fit the widths of their arrays.
-use mathlib.Core.Path.{_≡_, refl, ap, _∙_}
+use mathlib.Core.Path.{_≡_}
 use mathlib.Core.List.{List}
 use Prim.Native.Nat.{ℕ, _<_}
 use native.Mathlib.Omega.{arith}
@@ -12,7 +12,7 @@ use borrow.Author.Needs.{needs}
 use Rattle.rules.specs.Problem.{Problem}
 use Rattle.rules.specs.Sheet.{keyOf, problemFrom}
 use Rattle.proof_integer.specs.Order.{≤ℤ-trans}
-use Rattle.proof_integer.specs.Range.{Bnd, bnd-between, bnd-sfits}
+use Rattle.proof_integer.specs.Range.{bnd-between, bnd-sfits}
 use Rattle.proof_magnitudes.specs.Accepted.{Accepted}
 use Rattle.sheet_table.specs.Tabled.{tableIn}
 use Rattle.sheet_figures.specs.Figures.{row, figuresOf, coefficientsOver}
