@@ -20,8 +20,10 @@ use Rattle.sheet_figures.specs.declared.Figures.{Figures}
 use Rattle.sheet_figures.specs.Figures.{figuresOf, coefficientsOver, problemOf, in-arrays}
 
 -- ---- a sheet that is read, with its figures in arrays
-module _ (s : List ℕ) (read : layoutRefusal s ≡ none) {F : Figures} (lent : List ℤ) {a : List ℤ} (long : length lent ≡ 512)
-    (e : F ≡ figuresOf (problem (sheetOf s)) (sheetOf s .sizes .steps)) (c : a ≡ coefficientsOver lent (problem (sheetOf s))) where
+module _ (s : List ℕ) (read : layoutRefusal s ≡ none)
+    {F : Figures} (e : F ≡ figuresOf (problem (sheetOf s)) (sheetOf s .sizes .steps))
+    (lent : List ℤ) (long : length lent ≡ 512)
+    {a : List ℤ} (c : a ≡ coefficientsOver lent (problem (sheetOf s))) where
   abbrev P : Problem
   P = problem (sheetOf s)
 
@@ -49,8 +51,9 @@ module _ (s : List ℕ) (read : layoutRefusal s ≡ none) {F : Figures} (lent : 
   unfolding figuresOf refusal planRefusal
   refusal-is room =
       let wanted = recordLength (P .materials) (P .limits) in
-      (λ i. refuse 8 (recordLength (e i .materials) (e i .limits)) (ltb room (recordLength (e i .materials) (e i .limits)))
-      otherwise stepRefusal (problemOf (e i) (c i)) (e i .steps))
+      (λ i.
+      let length = recordLength (e i .materials) (e i .limits) in
+      refuse 8 length (ltb room length) otherwise stepRefusal (problemOf (e i) (c i)) (e i .steps))
       ∙ (λ i. refuse 8 wanted (ltb room wanted) otherwise same-refusal agree k i)
       ∙ sym (handed-on (planRefusal (sheetOf s) room) read)
 

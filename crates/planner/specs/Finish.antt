@@ -34,7 +34,8 @@ pub record RunReady (f : Figures) (a : List ℤ) (lent : List ℕ) : Type 0 wher
 unfoldable pub planWith : Figures → State → Plan
 planWith f w =
     let gap = gapOf (costsOnly (f .materials) (f .scale) (f .cost)) (f .steps) (w .low) (at (w .sums)) in
-    let head : Head = record { materials = f .materials; limits = f .limits; steps = f .steps; low = w .low; gap = gap } in
+    let head : Head =
+    record { materials = f .materials; limits = f .limits; steps = f .steps; low = w .low; gap = gap } in
     planIn head (w .sums) (w .multipliers) (w .totals)
 
 -- its gap fits, and the buffer can take the record

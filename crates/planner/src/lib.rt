@@ -48,7 +48,8 @@ fn write_plan(f: Figures, state: State, record: &mut [u8]) -> Answer
 fn plan_run(f: Figures, coefficient: &[i16; 512], record: &mut [u8]) -> Answer
     requires { ⌜ RunReady f (now coefficient) (now «record») ⌝ }
     ensures { λ r. ⌜ Ends (planAfter (problemOf f (now (coefficient .entry))) (f .steps))
-        (stepRefusal (problemOf f (now (coefficient .entry))) (f .steps)) (now («record» .entry)) (now («record» .exit)) r ⌝ }
+        (stepRefusal (problemOf f (now (coefficient .entry))) (f .steps))
+        (now («record» .entry)) (now («record» .exit)) r ⌝ }
 {
     let ran = run(f, coefficient);
     let stop = ran.stop;

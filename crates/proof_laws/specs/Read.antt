@@ -20,7 +20,8 @@ module _ {A : Type 0} where
   refused-says number k true x h = refl
   refused-says number k false x h = let z : _≡_ {A = ℕ} 0 1 = cc in absurd (omega arith)
 
-  pub gives-says : (number : ℕ) (b : Bool) (r : Read A) (y : A) → unless number b r ≡ gives y → (b ≡ false) × (r ≡ gives y)
+  pub gives-says : (number : ℕ) (b : Bool) (r : Read A) (y : A) → unless number b r ≡ gives y
+      → (b ≡ false) × (r ≡ gives y)
   unfolding unless
   gives-says number true r y h = let z : _≡_ {A = ℕ} 0 1 = cc in absurd (omega arith)
   gives-says number false r y h = (refl, h)

@@ -135,5 +135,6 @@ run-magnitudes {P} a t few h = record {
 
 -- .. and so with the run of every sheet that is read.
 pub magnitudes : (sheet : List ℕ) → layoutRefusal sheet ≡ none
-    → (t : ℕ) → t ≤ sheetOf sheet .sizes .steps → stepRefusal (problem (sheetOf sheet)) t ≡ none → RunMagnitudes (problem (sheetOf sheet)) t
+    → (t : ℕ) → t ≤ sheetOf sheet .sizes .steps → stepRefusal (problem (sheetOf sheet)) t ≡ none
+    → RunMagnitudes (problem (sheetOf sheet)) t
 magnitudes sheet read = run-magnitudes (accepted sheet read)

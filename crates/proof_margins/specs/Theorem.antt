@@ -25,7 +25,8 @@ module _ (sheet : List ℕ) (room : ℕ) where
       → Margins sheet (outcomeOf (planOf (sheetOf sheet)) r)
   unfolding Margins unlessRefused planOf planAfter
   by-refusal (some r) _ claim = claim
-  by-refusal none e _ = plan-margins (problem (sheetOf sheet)) (accepted sheet (read e) .start-sign) (sheetOf sheet .sizes .steps)
+  by-refusal none e _ =
+      plan-margins (problem (sheetOf sheet)) (accepted sheet (read e) .start-sign) (sheetOf sheet .sizes .steps)
 
 -- Demand 3.
 pub margins : (sheet : List ℕ) (room : ℕ) → Margins sheet (answer sheet room)

@@ -1,4 +1,5 @@
--- Document 01, "The batch sheet", from figures to bytes: the sizes, then the places of the table that are not 0, in rising order.
+-- Document 01, "The batch sheet", from figures to bytes: the sizes, then the places of the table that are not 0, in
+-- rising order.
 use Prim.Native.Nat.{ℕ, zero, suc, _*_}
 use mathlib.Core.Bool.{Bool, not, cond}
 use mathlib.Core.List.{List, [], _∷_, _++_, map}

@@ -1,4 +1,5 @@
--- Notation that the definitions share: −n, the test for 0, the larger of two integers, finite sums, and lists by their places.
+-- Notation that the definitions share: −n, the test for 0, the larger of two integers, finite sums, and lists by their
+-- places.
 use Prim.Native.Nat.{ℕ, zero, suc}
 use mathlib.Core.Bool.{Bool, cond}
 use mathlib.Core.List.{List, [], _∷_}

@@ -85,7 +85,8 @@ module _ (S : Sheet) where
   unfoldable pub crossed : ℕ → Bool
   crossed j = ltZ (tableOf S (keyOf 2 j)) (tableOf S (keyOf 1 j))
 
--- Refusals 1 to 7 of a sheet's bytes, in rising order, each over the whole sheet. A sheet follows the layout exactly when there is none.
+-- Refusals 1 to 7 of a sheet's bytes, in rising order, each over the whole sheet. A sheet follows the layout exactly
+-- when there is none.
 unfoldable pub layoutRefusal : List ℕ → Option Numbered
 layoutRefusal s =
     let S = sheetOf s in

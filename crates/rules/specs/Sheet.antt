@@ -1,4 +1,5 @@
--- Document 01, "The batch sheet": a sheet is sizes and a table of figures by key. Here from bytes to the figures; Encoder has the way back.
+-- Document 01, "The batch sheet": a sheet is sizes and a table of figures by key. Here from bytes to the figures;
+-- Encoder has the way back.
 use Prim.Native.Nat.{ℕ, zero, suc, _+_, _*_, _/_, _%_}
 use mathlib.Core.Bool.{cond}
 use mathlib.Core.List.{List}

@@ -33,22 +33,34 @@ cost-fits accepted x costs = record {
 }
 
 module _ (f : Figures) (a : List ℤ) {k : ℕ} (accepted : Accepted (problemOf f a) k) where
+  abbrev P : Problem
+  P = problemOf f a
+
+  -- the costs, and with the bounds, as the functions are lent them
+  abbrev costs : Problem
+  costs = costsOnly (f .materials) (f .scale) (f .cost)
+
+  abbrev bounded : Problem
+  bounded = materialsOnly (f .materials) (f .scale) (f .cost) (f .least) (f .most)
+
   -- ---- the greatest and the cheapest cost
-  pub greatest-fits : CostFits (materialsOnly (f .materials) (f .scale) (f .cost) (f .least) (f .most)) (greatestEnd (problemOf f a))
+  pub greatest-fits : CostFits bounded (greatestEnd P)
   unfolding costOf
   greatest-fits =
-      let fits = cost-fits accepted _ (cost-magnitudes accepted _ (lit≤ tt) (amounts-bnd accepted (greatest-minimal (problemOf f a)))) in
+      let amounts = amounts-bnd accepted (greatest-minimal P) in
+      let fits = cost-fits accepted _ (cost-magnitudes accepted _ (lit≤ tt) amounts) in
       record { narrow = fits .narrow; scale = fits .scale; sum = fits .sum; scaled = fits .scaled }
 
-  pub cheapest-fits : CostFits (materialsOnly (f .materials) (f .scale) (f .cost) (f .least) (f .most)) (cheapestEnd (problemOf f a))
+  pub cheapest-fits : CostFits bounded (cheapestEnd P)
   unfolding costOf
   cheapest-fits =
-      let fits = cost-fits accepted _ (cost-magnitudes accepted _ (lit≤ tt) (amounts-bnd accepted (cheapest-minimal (problemOf f a)))) in
+      let amounts = amounts-bnd accepted (cheapest-minimal P) in
+      let fits = cost-fits accepted _ (cost-magnitudes accepted _ (lit≤ tt) amounts) in
       record { narrow = fits .narrow; scale = fits .scale; sum = fits .sum; scaled = fits .scaled }
 
   -- ---- the gap after t steps, none of them refused
-  pub gap-fits : (t : ℕ) → t ≤ k → stepRefusal (problemOf f a) t ≡ none
-      → GapFits (costsOnly (f .materials) (f .scale) (f .cost)) t (lowAfter (problemOf f a) t) (at (stateAfter (problemOf f a) t .sums))
+  pub gap-fits : (t : ℕ) → t ≤ k → stepRefusal P t ≡ none
+      → GapFits costs t (lowAfter P t) (at (stateAfter P t .sums))
   unfolding costOf gapOf
   gap-fits t few going =
       let large = run-magnitudes accepted t few going .state in

@@ -13,7 +13,8 @@ use Rattle.sheet_figures.specs.Figures.{problemOf}
 use Rattle.run_step.specs.declared.State.{State}
 use Rattle.run_step.specs.States.{stateIn}
 
--- the figures, with the coefficients in a, are those of an accepted sheet, and k steps of its run, of which none is refused, lead to the state w
+-- the figures, with the coefficients in a, are those of an accepted sheet, and k steps of its run, of which none is
+-- refused, lead to the state w
 pub record Reached (f : Figures) (a : List ℤ) (k : ℕ) (w : State) : Type 0 where
   pub accepted : Accepted (problemOf f a) (f .steps)
   pub few : k ≤ f .steps

@@ -11,7 +11,7 @@ use Rattle.rules.specs.Notation.{at}
 use Rattle.rules.specs.Sheet.{Sheet, tableOf}
 use Rattle.rules.specs.Refusals.{Numbered, refuse, firstBelow, crossed}
 use Rattle.proof_laws.specs.FirstPlace.{first-cong}
-use Rattle.sheet_table.specs.Tabled.{placeAt, tabled, at-tabled}
+use Rattle.sheet_table.specs.Tabled.{InTable, placeAt, tabled, at-tabled}
 
 -- the table has a column for each material
 pub record FewMaterials (n : ℕ) : Type 0 where
@@ -36,6 +36,8 @@ unfolding crossedRefusal boundRefusal crossed
 crossed-is S few =
     first-cong (S .sizes .shape .materials) _ _ (λ j l.
     let narrow = few .narrow in
-    let most = at-tabled {row = 2} {column = j} (record { row-in = omega arith; column-in = omega arith }) (tableOf S) in
-    let least = at-tabled {row = 1} {column = j} (record { row-in = omega arith; column-in = omega arith }) (tableOf S) in
+    let in-table : (row : ℕ) → row ≤ 2 → InTable row j =
+    λ row r. record { row-in = omega arith; column-in = omega arith } in
+    let most = at-tabled (in-table 2 (omega arith)) (tableOf S) in
+    let least = at-tabled (in-table 1 (omega arith)) (tableOf S) in
     λ i. refuse 7 j (ltZ (most i) (least i)))

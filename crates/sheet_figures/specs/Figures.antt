@@ -6,6 +6,7 @@ use native.Mathlib.Nat.{zero-add}
 use native.Mathlib.Omega.{arith}
 use lib.IntN.{ℤ, pos}
 use lib.ListN.{length, replicate, length-replicate}
+use Rattle.rules.specs.declared.Sizes.{Sizes}
 use Rattle.rules.specs.Notation.{at}
 use Rattle.rules.specs.Problem.{Problem}
 use Rattle.rules.specs.Sheet.{problemFrom}
@@ -37,7 +38,10 @@ coefficientsOver lent P = putRows lent (P .limits) (P .materials) (P .coefficien
 
 -- no figures: every size and every place is 0
 unfoldable pub noFigures : Figures
-noFigures = figuresOf (problemFrom (record { shape = record { materials = 0; limits = 0 }; numerator = 0; scale = 0; steps = 0 }) (λ _. pos 0)) 0
+noFigures =
+    let sizes : Sizes =
+    record { shape = record { materials = 0; limits = 0 }; numerator = 0; scale = 0; steps = 0 } in
+    figuresOf (problemFrom sizes (λ _. pos 0)) 0
 
 -- ---- the problem whose figures stand in arrays
 abbrev pub problemIn : (n m p D : ℕ) → (c l u a b : List ℤ) → Problem

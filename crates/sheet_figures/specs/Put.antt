@@ -20,13 +20,6 @@ unfolding put
 length-put xs from zero f = refl
 length-put xs from (suc n) f = length-set (put xs from n f) _ _ ∙ length-put xs from n f
 
--- only the first n figures count
-pub put-cong : (xs : List ℤ) (from n : ℕ) (f g : ℕ → ℤ) → ((j : ℕ) → j < n → f j ≡ g j) → put xs from n f ≡ put xs from n g
-unfolding put
-put-cong xs from zero f g h = refl
-put-cong xs from (suc n) f g h =
-    ap₂ (λ (ys : List ℤ) v. set ys (from + n) v) (put-cong xs from n f g (λ j l. h j (le-step l))) (h n (lt-suc-self n))
-
 -- the places before and after stay
 pub put-other : (xs : List ℤ) (from n : ℕ) (f : ℕ → ℤ) (x : ℕ) → ((j : ℕ) → j < n → x ≡ from + j → ⊥)
     → at (put xs from n f) x ≡ at xs x
@@ -48,6 +41,14 @@ put-here xs from (suc n) f room j l = elim (eq-or-lt-of-le (le-of-suc-le-suc l))
       ∙ put-here xs from n f (omega arith) j k
 ]
 
+-- only the first n figures count
+pub put-cong : (xs : List ℤ) (from n : ℕ) (f g : ℕ → ℤ) → ((j : ℕ) → j < n → f j ≡ g j)
+    → put xs from n f ≡ put xs from n g
+unfolding put
+put-cong xs from zero f g h = refl
+put-cong xs from (suc n) f g h =
+    ap₂ (λ (ys : List ℤ) v. set ys (from + n) v) (put-cong xs from n f g (λ j l. h j (le-step l))) (h n (lt-suc-self n))
+
 -- ---- m rows of n figures, each row 32 places on
 unfoldable pub putRows : List ℤ → ℕ → ℕ → (ℕ → ℕ → ℤ) → List ℤ
 putRows xs zero n f = xs
@@ -58,14 +59,7 @@ unfolding putRows
 length-rows xs zero n f = refl
 length-rows xs (suc m) n f = length-put (putRows xs m n f) _ n (f m) ∙ length-rows xs m n f
 
-pub rows-cong : (xs : List ℤ) (m n : ℕ) (f g : ℕ → ℕ → ℤ) → ((i j : ℕ) → i < m → j < n → f i j ≡ g i j)
-    → putRows xs m n f ≡ putRows xs m n g
-unfolding putRows
-rows-cong xs zero n f g h = refl
-rows-cong xs (suc m) n f g h =
-    (λ k. put (rows-cong xs m n f g (λ i j l. h i j (le-step l)) k) (32 * m) n (f m))
-    ∙ put-cong (putRows xs m n g) (32 * m) n (f m) (g m) (λ j l. h m j (lt-suc-self m) l)
-
+-- figure j of row i stands j places on in it
 pub rows-here : (xs : List ℤ) (m n : ℕ) (f : ℕ → ℕ → ℤ) → n ≤ 32 → 32 * m ≤ length xs → (i j : ℕ) → i < m → j < n
     → at (putRows xs m n f) (32 * i + j) ≡ f i j
 unfolding putRows
@@ -76,3 +70,12 @@ rows-here xs (suc m) n f narrow room i j l k = elim (eq-or-lt-of-le (le-of-suc-l
       put-other (putRows xs m n f) (32 * m) n (f m) (32 * i + j) (λ c d e. omega arith)
       ∙ rows-here xs m n f narrow (omega arith) i j b k
 ]
+
+-- only the first m rows of n figures count
+pub rows-cong : (xs : List ℤ) (m n : ℕ) (f g : ℕ → ℕ → ℤ) → ((i j : ℕ) → i < m → j < n → f i j ≡ g i j)
+    → putRows xs m n f ≡ putRows xs m n g
+unfolding putRows
+rows-cong xs zero n f g h = refl
+rows-cong xs (suc m) n f g h =
+    (λ k. put (rows-cong xs m n f g (λ i j l. h i j (le-step l)) k) (32 * m) n (f m))
+    ∙ put-cong (putRows xs m n g) (32 * m) n (f m) (g m) (λ j l. h m j (lt-suc-self m) l)

@@ -1,5 +1,5 @@
-// A sheet's figures in arrays, for the run. The coefficients, which are many, stand in an array of their own that is lent:
-// a_ij at place 32 i + j. What stands at which place is said in specs/.
+// A sheet's figures in arrays, for the run. The coefficients, which are many, stand in an array of their own that is
+// lent: a_ij at place 32 i + j. What stands at which place is said in specs/.
 
 // Places from n and from m on hold 0.
 pub struct Figures {

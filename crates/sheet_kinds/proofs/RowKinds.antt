@@ -19,12 +19,14 @@ module _ (shape : Shape) (row column : ℕ) where
   m = shape .limits
 
   -- rows 0 to 2 end before column n
-  pub material-row : row ≤ 2 → unless 5 (ltb n column || eqb column n) (gives (kindAt shape row column)) ≡ meaningAt shape row column
+  pub material-row : row ≤ 2
+      → unless 5 (ltb n column || eqb column n) (gives (kindAt shape row column)) ≡ meaningAt shape row column
   unfolding meaningAt noFigureAt
   material-row h = rw (le-ltb (m + 2) row (omega arith), le-leb row 2 h, and-true)
 
   -- the row of a limit ends after column n
-  pub limit-row : 3 ≤ row → row ≤ m + 2 → unless 5 (ltb n column) (gives (kindAt shape 3 column)) ≡ meaningAt shape row column
+  pub limit-row : 3 ≤ row → row ≤ m + 2
+      → unless 5 (ltb n column) (gives (kindAt shape 3 column)) ≡ meaningAt shape row column
   unfolding meaningAt noFigureAt kindAt
   limit-row h k =
       -- `kindAt` counts rows by successors

@@ -16,7 +16,8 @@ pub enum Meaning {
 
 // A figure of a material stands in the columns below n.
 fn of_material(kind: Kind, shape: Shape, column: usize) -> Meaning
-    ensures { λ r. ⌜ meaningOf r ≡ unless 5 (ltb (shape .materials) column || eqb column (shape .materials)) (gives kind) ⌝ }
+    ensures { λ r. ⌜ meaningOf r
+        ≡ unless 5 (ltb (shape .materials) column || eqb column (shape .materials)) (gives kind) ⌝ }
 {
     let n = shape.materials;
     if n <= column {

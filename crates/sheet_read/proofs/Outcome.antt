@@ -23,5 +23,6 @@ module _ (S : Sheet) {refusal : Option Numbered} {lent : List ℤ} {r : Reading}
   read-whole passed h e c = record { verdict = passed ∙ sym h; figures = rw h e; coefficients = rw h c }
 
   -- the same refusal, told another way
-  pub told-as : {other : Option Numbered} {after : List ℤ} → refusal ≡ other → Reads S refusal lent after r → Reads S other lent after r
+  pub told-as : {other : Option Numbered} {after : List ℤ} → refusal ≡ other → Reads S refusal lent after r
+      → Reads S other lent after r
   told-as e h = rw e at h

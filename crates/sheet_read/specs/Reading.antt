@@ -26,7 +26,8 @@ coefficientsUnless (some r) S lent = lent
 unfoldable pub withoutFigures : Verdict → Reading
 withoutFigures v = record { verdict = v; figures = noFigures }
 
--- The reading of a sheet that ends with this refusal, or with none: the verdict, the figures, and the lent array afterwards.
+-- The reading of a sheet that ends with this refusal, or with none: the verdict, the figures, and the lent array
+-- afterwards.
 pub record Reads (S : Sheet) (refusal : Option Numbered) (lent after : List ℤ) (r : Reading) : Type 0 where
   pub verdict : refusalOf (r .verdict) ≡ refusal
   pub figures : r .figures ≡ figuresUnless refusal S

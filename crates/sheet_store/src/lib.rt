@@ -18,7 +18,8 @@ use sheet_table::place_at;
 pub fn store_entries(s: &[u8], header: Header, table: &mut [i32; 646]) -> Verdict
     requires { ⌜ ReadyToStore (now s) header (now table) ⌝ }
     ensures { λ r. ⌜ refusalOf r ≡ valueRefusal (sheetOf (now (s .entry))) ⌝ }
-    ensures { λ r. ⌜ now (table .exit) ≡ tabled (valueUnder (sheetOf (now (s .entry))) (storedBy r (header .entries))) ⌝ }
+    ensures { λ r. ⌜ now (table .exit)
+        ≡ tabled (valueUnder (sheetOf (now (s .entry))) (storedBy r (header .entries))) ⌝ }
 {
     let sizes = header.sizes;
     let shape = sizes.shape;

@@ -24,8 +24,8 @@ pub record InTable (row column : ℕ) : Type 0 where
   pub column-in : column < 34
 
 -- those of a figure are
-pub figure-in-table : {shape : Shape} {e : ℕ} (row column : ℕ) → SizesInRange shape e → noFigureAt shape row column ≡ false
-    → InTable row column
+pub figure-in-table : {shape : Shape} {e : ℕ} (row column : ℕ) → SizesInRange shape e
+    → noFigureAt shape row column ≡ false → InTable row column
 figure-in-table {shape} row column sizes h =
     let (row-in, column-in) = figure-at shape row column h in
     record { row-in = omega (arith, sizes .few); column-in = omega (arith, sizes .narrow) }
@@ -42,7 +42,8 @@ keyIn x = keyOf (x / 34) (x % 34)
 abbrev pub tableIn : List ℤ → Table
 tableIn t key = at t (placeAt (rowOf key) (columnOf key))
 
-pub table-at : (t : List ℤ) (row : ℕ) {column : ℕ} → column < 64 → tableIn t (keyOf row column) ≡ at t (placeAt row column)
+pub table-at : (t : List ℤ) (row : ℕ) {column : ℕ} → column < 64
+    → tableIn t (keyOf row column) ≡ at t (placeAt row column)
 table-at t row {column} l = let (r, c) = key-parts row column l in rw (r, c)
 
 -- the array of a table

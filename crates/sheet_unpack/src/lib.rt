@@ -40,7 +40,8 @@ fn take_rows(table: &[i32; 646], n: usize, m: usize, to: &mut [i16; 512])
 // A column of the rows of the limits.
 fn take_column(table: &[i32; 646], column: usize, m: usize, to: &mut [i32; 16])
     requires { ⌜ ColumnFits column m ⌝ }
-    ensures { λ _. ⌜ now (to .exit) ≡ put (now (to .entry)) 0 m (λ i. tableIn (now (table .entry)) (keyOf (3 + i) column)) ⌝ }
+    ensures { λ _. ⌜ now (to .exit)
+        ≡ put (now (to .entry)) 0 m (λ i. tableIn (now (table .entry)) (keyOf (3 + i) column)) ⌝ }
 {
     let mut i: usize = 0;
     while i < m {

@@ -49,20 +49,24 @@ module _ (c : tie.After-enum-told) where
 
   coefficients-are : read .read-sheet .last .1 .0 ≡ coefficientsOver zeros (problem (sheetOf sheet))
   unfolding coefficientsUnless
-  coefficients-are = read .read-sheet .ensures .coefficients ∙ (λ i. coefficientsUnless (accepted i) (sheetOf sheet) zeros)
+  coefficients-are =
+      read .read-sheet .ensures .coefficients ∙ (λ i. coefficientsUnless (accepted i) (sheetOf sheet) zeros)
 
 plan-figures-requires : tie.Need-plan-figures-requires
 plan-figures-requires c κs =
     let r = c .before .before in
-    figures-accepted (sheet r) (accepted r) zeros (length-replicate 512 (pos 0)) (figures-are r) (coefficients-are r)
+    figures-accepted (sheet r) (accepted r) (figures-are r) zeros (length-replicate 512 (pos 0)) (coefficients-are r)
 
 returns-2 : tie.Need-returns-2
 returns-2 c =
     let planned = c .before .before in
     let r = planned .before .before .before in
-    let same = plan-is (sheet r) (accepted r) zeros (length-replicate 512 (pos 0)) (figures-are r) (coefficients-are r) in
-    let met = refusal-is (sheet r) (accepted r) zeros (length-replicate 512 (pos 0)) (figures-are r) (coefficients-are r) _ in
-    promised (ends-same same met (planned .plan-figures .ensures))
+    let long = length-replicate 512 (pos 0) in
+    promised
+    (ends-same
+    (plan-is (sheet r) (accepted r) (figures-are r) zeros long (coefficients-are r))
+    (refusal-is (sheet r) (accepted r) (figures-are r) zeros long (coefficients-are r) _)
+    (planned .plan-figures .ensures))
 
 pub plan-spec : {M : Type 1} → statement M
 plan-spec =

@@ -40,7 +40,9 @@ module _ (c : tie.After-enum-told) where
         accepted = s .pre .accepted;
         few = le-refl _;
         going = going;
-        state = ran .run .ensures .state ∙ (λ i. stateIn (stateAfter (problemOf f (s .args .coefficient .now)) (stepsTaken (f .steps) (going i))));
+        state =
+            ran .run .ensures .state
+            ∙ (λ i. stateIn (stateAfter (problemOf f (s .args .coefficient .now)) (stepsTaken (f .steps) (going i))));
       }
 
 write-plan-requires : tie.Need-write-plan-requires

@@ -48,8 +48,8 @@ module _ (c : tie.After-gap) where
   gap-is =
       let fits : SFits w64 (c .gap .result) = search needs in
       let given = f start in
-      toZ-ofZ fits ∙ c .gap .ensures
-      ∙ (λ k. gapOf (costsOnly (given .materials) (given .scale) (given .cost)) (given .steps) (low-is k) (at (w start .sums)))
+      let costs = costsOnly (given .materials) (given .scale) (given .cost) in
+      toZ-ofZ fits ∙ c .gap .ensures ∙ (λ k. gapOf costs (given .steps) (low-is k) (at (w start .sums)))
 
 -- ---- the record
 returns : tie.Need-returns

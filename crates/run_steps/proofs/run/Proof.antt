@@ -82,7 +82,8 @@ returns c =
     let loop = stepped .before .before .before in
     let given = s (loop .before) .args in
     let f = given .t1 in
-    hands-on (problemOf f (given .coefficient .now)) (loop .loop .inv .1 .going) (stepped .step .ensures) (f .steps) (omega arith) (c .enum-told2 .given .1)
+    hands-on (problemOf f (given .coefficient .now)) (loop .loop .inv .1 .going) (stepped .step .ensures) (f .steps)
+    (omega arith) (c .enum-told2 .given .1)
 
 loop-again : tie.Need-loop-again Inv-loop μ-loop
 loop-again c =
@@ -106,7 +107,8 @@ returns-2 c =
     let given = s (c .before .before) .args in
     let f = given .t1 in
     let all : loop .t ≡ f .steps = omega (arith, loop .inv .1 .few) in
-    hands-state (problemOf f (given .coefficient .now)) (f .steps) (loop .inv .0) (rw all at (loop .inv .1 .going)) (rw all at (loop .inv .1 .state))
+    hands-state (problemOf f (given .coefficient .now)) (f .steps) (loop .inv .0)
+    (rw all at (loop .inv .1 .going)) (rw all at (loop .inv .1 .state))
 
 pub run-spec : {M : Type 1} → statement M
 run-spec =

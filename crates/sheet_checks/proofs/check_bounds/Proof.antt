@@ -77,8 +77,9 @@ unfolding refusalOf numbered numberOf crossedRefusal
 returns c =
     let taken = c .before in
     let a = taken .before in
+    let crossed = test-is a true (taken .if1 .taken) in
     ap refusalOf (c .refused .ensures)
-    ∙ sym (scan-found 7 (crossedAt (table (turn a))) (n (turn a)) (omega arith) (before a) (test-is a true (taken .if1 .taken)))
+    ∙ sym (scan-found 7 (crossedAt (table (turn a))) (n (turn a)) (omega arith) (before a) crossed)
 
 loop-again : tie.Need-loop-again Inv-loop μ-loop
 loop-again c =

@@ -11,7 +11,8 @@ returns : tie.Need-returns
 unfolding meaningOf unless kindAt
 returns c =
     let a = c .before .args in
-    rw (le-ltb (a .shape .materials) (a .column) (omega arith), ne-eqb (a .column) (a .shape .materials) (λ e. omega arith))
+    let n = a .shape .materials in
+    rw (le-ltb n (a .column) (omega arith), ne-eqb (a .column) n (λ e. omega arith))
 
 returns-2 : tie.Need-returns-2
 unfolding meaningOf unless kindAt

@@ -21,7 +21,8 @@ returns-2 : tie.Need-returns-2
 unfolding meaningOf unless
 returns-2 c =
     let a = c .before .args in
-    rw (le-ltb (a .shape .materials) (a .column) (omega arith), ne-eqb (a .column) (a .shape .materials) (λ e. omega arith))
+    let n = a .shape .materials in
+    rw (le-ltb n (a .column) (omega arith), ne-eqb (a .column) n (λ e. omega arith))
 
 pub of-material-spec : {M : Type 1} → statement M
 of-material-spec = tie.close (tie.spec returns returns-2)

@@ -142,8 +142,8 @@ unpack-requires : tie.Need-unpack-requires
 unpack-requires c κs =
     let told = c .before .before in
     let st = at-store told in
-    transport
-    (λ j. let h = sym (is st) j in Accepted (problemFrom (h .sizes) (tableIn (sym (table-is (good (checked told))) j))) (h .sizes .steps))
+    let t = sym (table-is (good (checked told))) in
+    transport (λ j. let h = sym (is st) j in Accepted (problemFrom (h .sizes) (tableIn (t j))) (h .sizes .steps))
     (accepted-same (same told) (ranged told))
 
 returns-3 : tie.Need-returns-3

@@ -26,9 +26,9 @@ returns c =
     let told = refused .before in
     let read = told .before .before in
     let s = read .before .before .args .s .now in
-    let too-short = refused-says 1 1 _ _ (sym (read .read-header .ensures) ∙ ap headerAnswered (told .enum-told .given .1)) in
-    turned-back (sheetOf s) (refused .refused .result) (c .without-figures .ensures) (ap refusalOf (refused .refused .ensures))
-    (short s too-short)
+    let answered = sym (read .read-header .ensures) ∙ ap headerAnswered (told .enum-told .given .1) in
+    turned-back (sheetOf s) (refused .refused .result) (c .without-figures .ensures)
+    (ap refusalOf (refused .refused .ensures)) (short s (refused-says 1 1 _ _ answered))
 
 -- ---- the header is read
 module _ (c : tie.After-known-told) where

@@ -93,7 +93,8 @@ module _ (c : tie.After-read-entry Inv-loop μ-loop) where
       toZ-ofZ fits ∙ number .ensures
       ∙ (λ j. let g = h here .is j in signedAt 4 (s here) (g .length + 2 * g .entries + 4 * i here))
 
-  read-is : entryAnswered (c .read-entry .result) ≡ unless 6 (badValue (S here) (i here)) (gives (S here .value (i here)))
+  read-is : entryAnswered (c .read-entry .result)
+      ≡ unless 6 (badValue (S here) (i here)) (gives (S here .value (i here)))
   unfolding entryRead badValue
   read-is =
       c .read-entry .ensures

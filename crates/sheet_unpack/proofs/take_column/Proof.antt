@@ -57,7 +57,8 @@ module _ (c : tie.After-to Inv-loop μ-loop) where
   abbrev turn : tie.In-loop Inv-loop μ-loop
   turn = c .before .before
 
-  kept : toZ w32 (ofZ w32 (at (table turn) (c .before .place-at .result))) ≡ figure (table turn) (start turn .args .column) (i turn)
+  kept : toZ w32 (ofZ w32 (at (table turn) (c .before .place-at .result)))
+      ≡ figure (table turn) (start turn .args .column) (i turn)
   kept =
       let fits : SFits w32 (at (table turn) (c .before .place-at .result)) = search needs in
       toZ-ofZ fits ∙ ap (at (table turn)) (c .before .place-at .ensures)

@@ -45,9 +45,10 @@ unfolding putRows
 loop-again c =
     let turn = c .before .before in
     let a = turn .before .before .args in
-    let i = turn .before .loop .i in (
+    let i = turn .before .loop .i in
+    let before = turn .before .loop .inv .1 in (
       omega arith,
-      rw add-one (c .take-row .ensures ∙ (λ k. put (turn .before .loop .inv .1 k) (32 * i) (a .n) (figure (a .table .now) i))),
+      rw add-one (c .take-row .ensures ∙ (λ k. put (before k) (32 * i) (a .n) (figure (a .table .now) i))),
     )
 
 returns : tie.Need-returns Inv-loop μ-loop

@@ -27,11 +27,13 @@ module _ {P : Problem} {k : ℕ} (a : Accepted P k) where
 
   least-fits : (j : ℕ) → j < P .materials → SFits w16 (P .least j)
   least-fits j l =
-      bnd-sfits {a = 1000} tt (bnd-between (≤ℤ-trans (leZ-yes tt) (a .least-sign j l)) (≤ℤ-trans (a .ordered j l) (a .most-in j l)))
+      bnd-sfits {a = 1000} tt
+      (bnd-between (≤ℤ-trans (leZ-yes tt) (a .least-sign j l)) (≤ℤ-trans (a .ordered j l) (a .most-in j l)))
 
   most-fits : (j : ℕ) → j < P .materials → SFits w16 (P .most j)
   most-fits j l =
-      bnd-sfits {a = 1000} tt (bnd-between (≤ℤ-trans (leZ-yes tt) (≤ℤ-trans (a .least-sign j l) (a .ordered j l))) (a .most-in j l))
+      bnd-sfits {a = 1000} tt
+      (bnd-between (≤ℤ-trans (leZ-yes tt) (≤ℤ-trans (a .least-sign j l) (a .ordered j l))) (a .most-in j l))
 
   coefficient-fits : (i j : ℕ) → i < P .limits → j < P .materials → SFits w16 (P .coefficient i j)
   coefficient-fits i j h l = bnd-sfits tt (a .coefficient-in i h j l)

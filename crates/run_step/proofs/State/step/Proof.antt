@@ -75,7 +75,9 @@ s-look c = c .before .before .before .before .before .before .before .before .be
 look-at-requires : tie.Need-look-at-requires
 look-at-requires c κs =
     let s = s-look c in
-    subst (λ (M : ℕ → ℤ). LookFits (lookedAt (f s) (a s)) M (replicate 32 (pos 0)) (replicate 16 (pos 0))) (sym (M-is s))
+    subst
+    (λ (M : ℕ → ℤ). LookFits (lookedAt (f s) (a s)) M (replicate 32 (pos 0)) (replicate 16 (pos 0)))
+    (sym (M-is s))
     (look-fits (f s) (a s) (accepted s) (t s) (large s))
 
 module _ (c : tie.After-look-at) where
@@ -128,7 +130,8 @@ move-multipliers-requires : tie.Need-move-multipliers-requires
 move-multipliers-requires c κs =
     let q = q-move c in
     let s = s-q q in
-    transport (λ k. MoveFits (limitsMoved (f s .limits) (f s .numerator)) (sym (M-is s) k) (sym (g-reads q) k)) (move-fits (f s) (a s) (accepted s) (t s) (large s))
+    transport (λ k. MoveFits (limitsMoved (f s .limits) (f s .numerator)) (sym (M-is s) k) (sym (g-reads q) k))
+    (move-fits (f s) (a s) (accepted s) (t s) (large s))
 
 module _ (c : tie.After-move-multipliers) where
   abbrev at-q : tie.After-look-at
@@ -177,13 +180,15 @@ add-amounts-requires : tie.Need-add-amounts-requires
 add-amounts-requires c κs =
     let e = c .before .before in
     let s = s-e e in
-    transport (λ k. TotalsFit w32 32 (f s .materials) (sym (sums-are s) k) (sym (x-reads (q-e e)) k)) (sums-fit (f s) (a s) (accepted s) (t s) (large s))
+    transport (λ k. TotalsFit w32 32 (f s .materials) (sym (sums-are s) k) (sym (x-reads (q-e e)) k))
+    (sums-fit (f s) (a s) (accepted s) (t s) (large s))
 
 add-residuals-requires : tie.Need-add-residuals-requires
 add-residuals-requires c κs =
     let e = c .before .before .before .before .before in
     let s = s-e e in
-    transport (λ k. TotalsFit w64 16 (f s .limits) (sym (totals-are s) k) (sym (g-reads (q-e e)) k)) (totals-fit (f s) (a s) (accepted s) (t s) (large s))
+    transport (λ k. TotalsFit w64 16 (f s .limits) (sym (totals-are s) k) (sym (g-reads (q-e e)) k))
+    (totals-fit (f s) (a s) (accepted s) (t s) (large s))
 
 -- ---- the state after the step
 module _ (c : tie.After-larger) where
