@@ -1,5 +1,5 @@
 -- The header of a sheet: its sizes, refusals 1 to 4, and what a sheet that passed them has.
-use mathlib.Core.Path.{_≡_, refl, sym, transport}
+use mathlib.Core.Path.{_≡_, refl, sym, ap, transport}
 use mathlib.Core.Bool.{not}
 use mathlib.Core.List.{List}
 use mathlib.Core.Option.{Option, none}
@@ -57,3 +57,15 @@ headed s {h} e passed =
     let sizes = dimensions (sheetOf s .sizes .shape) (sheetOf s .entries) (not-false _ (refuse-false 2 0 _ first)) in
     let long = eqb-true _ _ (not-false _ (refuse-false 3 0 _ second)) in
     transport (λ j. Headed s (sym e j)) (record { is = refl; passed = passed; in-range = sizes; long = long })
+
+-- ---- and in the words of the sheet
+module _ {s : List ℕ} {h : Header} (passed : Headed s h) where
+  pub entries-is : h .entries ≡ sheetOf s .entries
+  entries-is = ap (λ (g : Header). g .entries) (passed .is)
+
+  pub keys-begin : h .length ≡ headerLength
+  keys-begin = ap (λ (g : Header). g .length) (passed .is)
+
+  pub sheet-in-range : SizesInRange (sheetOf s .sizes .shape) (sheetOf s .entries)
+  sheet-in-range =
+      transport (λ j. let g = passed .is j in SizesInRange (g .sizes .shape) (g .entries)) (passed .in-range)

@@ -2,8 +2,7 @@
 use mathlib.Core.Path.{_≡_, refl, sym, ap, _∙_}
 use mathlib.Core.Bool.{false}
 use mathlib.Core.Option.{none}
-use mathlib.Core.List.{List}
-use Prim.Native.Nat.{ℕ, _+_, _-_, _*_, _≤_}
+use Prim.Native.Nat.{ℕ, _-_, _≤_}
 use native.Mathlib.Omega.{arith}
 use borrow.Author.Needs.{needs}
 use Rattle.rules.specs.Bytes.{unsignedAt}
@@ -13,8 +12,7 @@ use Rattle.proof_laws.specs.FirstPlace.{first-start, first-end, scan, scan-more
 use Rattle.proof_laws.specs.Read.{gives, unless, gives-says, same-gives, refused-says}
 use Rattle.sheet_entries.specs.KeyRead.{keyAnswered, keyRead}
 use Rattle.sheet_checks.specs.Keys.{keyRefusal}
-use Rattle.sheet_header.specs.declared.Header.{Header}
-use Rattle.sheet_header.specs.Header.{Headed}
+use Rattle.sheet_header.specs.Header.{entries-is, keys-begin}
 use Rattle.sheet_checks.proofs.Floor.{floorOf, floor-next, key-test}
 use Rattle.sheet_checks.proofs.check_keys.Statement.{statement}
 use Rattle.sheet_checks.proofs.check_keys.Tie as tie
@@ -33,10 +31,6 @@ abbrev μ-loop : tie.MeasureT-loop
 loop-holds : tie.Need-loop-holds Inv-loop μ-loop
 unfolding floorOf
 loop-holds c = record { within = omega arith; keys = first-start _; floor-is = refl }
-
--- e, as it was read
-count : {s : List ℕ} {h : Header} → Headed s h → h .entries ≡ sheetOf s .entries
-count h = ap (λ (g : Header). g .entries) (h .is)
 
 -- ---- a turn: entry i
 module _ (c : tie.In-loop Inv-loop μ-loop) where
@@ -62,8 +56,8 @@ module _ (c : tie.After-read-key Inv-loop μ-loop) where
 
   key-read : c .before .size-at .result ≡ S here .key (i here)
   key-read =
-      let keys = ap (λ (h : Header). h .length) (start here .pre .is) in
-      c .before .size-at .ensures .is ∙ ap (λ at. unsignedAt 2 (start here .args .s .now) (at + 2 * i here)) keys
+      c .before .size-at .ensures .is
+      ∙ ap (unsignedAt 2 (start here .args .s .now)) (omega (arith, keys-begin (start here .pre)))
 
   read-is : keyAnswered (c .read-key .result) ≡ unless 5 (badKey (S here) (i here)) (gives (S here .key (i here)))
   unfolding keyRead
@@ -81,7 +75,7 @@ returns c =
     let a = here read in
     let bad = refused-says 5 5 _ _ (sym (read-is read) ∙ ap keyAnswered (told .enum-told .given .1)) in
     ap refusalOf (c .refused .ensures)
-    ∙ sym (scan-found 5 (badKey (S a)) (S a .entries) (omega (arith, count (start a .pre))) (turn a .keys) bad)
+    ∙ sym (scan-found 5 (badKey (S a)) (S a .entries) (omega (arith, entries-is (start a .pre))) (turn a .keys) bad)
 
 -- ---- the key is good
 module _ (c : tie.After-known-told Inv-loop μ-loop) where
@@ -120,7 +114,7 @@ unfolding refusalOf keyRefusal
 returns-2 c =
     let ended = c .before in
     let start = ended .before .before .before .before in
-    let all : ended .loop .i ≡ sheetOf (start .args .s .now) .entries = omega (arith, count (start .pre)) in
+    let all : ended .loop .i ≡ sheetOf (start .args .s .now) .entries = omega (arith, entries-is (start .pre)) in
     sym (first-end _ all (ended .loop .inv .keys))
 
 pub check-keys-spec : {M : Type 1} → statement M

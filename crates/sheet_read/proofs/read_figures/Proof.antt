@@ -13,12 +13,12 @@ use Rattle.rules.specs.declared.Verdict.{Verdict}
 use Rattle.rules.specs.Sheet.{Sheet, headerLength, sheetOf, valueUnder, tableOf, problemFrom, problem}
 use Rattle.rules.specs.Refusals.{refusalOf, layoutRefusal}
 use Rattle.proof_laws.specs.Agreeing.{Agree}
+use Rattle.proof_laws.specs.Sizes.{SizesInRange}
 use Rattle.proof_laws.specs.FirstPlace.{given, handed-on}
 use Rattle.proof_magnitudes.specs.Accepted.{Accepted, accepted, accepted-same}
 use Rattle.sheet_table.specs.Tabled.{tabled, tableIn, tabled-zero, table-agrees}
 use Rattle.sheet_figures.specs.Figures.{figuresOf, coefficientsOver, figures-same, coefficients-same}
-use Rattle.sheet_header.specs.declared.Header.{Header}
-use Rattle.sheet_header.specs.Header.{Headed, headerOf}
+use Rattle.sheet_header.specs.Header.{Headed, headerOf, entries-is, keys-begin, sheet-in-range}
 use Rattle.sheet_checks.specs.Bounds.{crossedRefusal, boundRefusal, crossed-is}
 use Rattle.sheet_store.specs.Values.{storedBy, valueRefusal}
 use Rattle.sheet_read.specs.Reading.{figuresRefusal}
@@ -69,7 +69,7 @@ module _ (c : tie.After-enum-told) where
   unfolding storedBy
   all =
       ap (λ (v : Verdict). storedBy v (start stored .args .header .entries)) (c .enum-told .given .1)
-      ∙ (λ j. is stored j .entries)
+      ∙ entries-is (headed stored)
 
   -- the lent table afterwards
   abbrev table : List ℤ
@@ -88,15 +88,15 @@ module _ (c : tie.After-check-bounds) where
   abbrev good : tie.After-enum-told
   good = c .before .before .before .before
 
-  narrow : S (stored good) .sizes .shape .materials ≤ 32
-  narrow = transport (λ j. is (stored good) j .sizes .shape .materials ≤ 32) (headed (stored good) .in-range .narrow)
+  ranges : SizesInRange (S (stored good) .sizes .shape) (S (stored good) .entries)
+  ranges = sheet-in-range (headed (stored good))
 
   bounds : refusalOf (c .check-bounds .result) ≡ figuresRefusal (S (stored good))
   unfolding figuresRefusal
   bounds =
       c .check-bounds .ensures
       ∙ (λ j. crossedRefusal (is (stored good) j .sizes .shape .materials) (table-is good j))
-      ∙ crossed-is (S (stored good)) (record { narrow = narrow })
+      ∙ crossed-is (S (stored good)) (record { narrow = ranges .narrow })
       ∙ sym (handed-on (boundRefusal (S (stored good))) (values good))
 
 returns-2 : tie.Need-returns-2
@@ -126,17 +126,14 @@ module _ (c : tie.After-enum-told3) where
   followed : layoutRefusal (s at-store) ≡ none
   followed =
       let h = headed at-store in
-      let long : headerLength ≤ length (s at-store) = omega (arith, h .long, ap (λ (g : Header). g .length) (h .is)) in
+      let long : headerLength ≤ length (s at-store) = omega (arith, h .long, keys-begin h) in
       after-keys (s at-store) (le-ltb _ _ long) (h .passed) (start at-store .pre .keys) ∙ none-refused
 
   ranged : Accepted (problem (S at-store)) (z .steps)
   ranged = accepted (s at-store) followed
 
-  few : z .shape .limits ≤ 16
-  few = transport (λ j. is at-store j .sizes .shape .limits ≤ 16) (headed at-store .in-range .few)
-
   same : Agree (problemFrom z (tableIn (tabled (tableOf (S at-store))))) (problem (S at-store))
-  same = table-agrees z (tableOf (S at-store)) (narrow checked) few
+  same = table-agrees z (tableOf (S at-store)) (ranges checked .narrow) (ranges checked .few)
 
 unpack-requires : tie.Need-unpack-requires
 unpack-requires c κs =

@@ -1,9 +1,9 @@
 -- The values of the entries below i are good and stored.
-use mathlib.Core.Path.{_≡_, sym, ap, transport, _∙_}
+use mathlib.Core.Path.{_≡_, sym, ap, _∙_}
 use mathlib.Core.Bool.{false}
 use mathlib.Core.List.{List}
 use mathlib.Core.Option.{none}
-use Prim.Native.Nat.{ℕ, _+_, _-_, _*_, _≤_, _<_}
+use Prim.Native.Nat.{ℕ, _-_, _≤_, _<_}
 use native.Mathlib.Omega.{arith}
 use lib.IntN.{ℤ}
 use lib.ListN.{set}
@@ -16,12 +16,10 @@ use Rattle.rules.specs.Bytes.{unsignedAt, signedAt}
 use Rattle.rules.specs.Sheet.{Sheet, sheetOf, rowOf, columnOf, valueUnder}
 use Rattle.rules.specs.Refusals.{numberOf, numbered, refusalOf, badValue}
 use Rattle.proof_laws.specs.Read.{gives, unless, unless-no, gives-says, same-gives, refused-says}
-use Rattle.proof_laws.specs.Sizes.{SizesInRange}
 use Rattle.proof_laws.specs.Entries.{noFigureFor}
 use Rattle.proof_laws.specs.FirstPlace.{first-start, first-end, scan, scan-more, scan-found}
 use Rattle.sheet_entries.specs.EntryRead.{entryAnswered, entryRead}
-use Rattle.sheet_header.specs.declared.Header.{Header}
-use Rattle.sheet_header.specs.Header.{Headed}
+use Rattle.sheet_header.specs.Header.{Headed, entries-is, keys-begin, sheet-in-range}
 use Rattle.sheet_table.specs.Tabled.{InTable, placeAt, place-below, tabled, figure-in-table}
 use Rattle.sheet_checks.specs.Keys.{figure-there}
 use Rattle.sheet_store.specs.Values.{storedBy, valueRefusal, entry-stored}
@@ -62,14 +60,8 @@ module _ (c : tie.In-loop Inv-loop μ-loop) where
   abbrev i : ℕ
   i = c .before .loop .i
 
-  count : start .args .header .entries ≡ S .entries
-  count = ap (λ (g : Header). g .entries) (h .is)
-
-  sizes : SizesInRange (S .sizes .shape) (S .entries)
-  sizes = transport (λ j. let g = h .is j in SizesInRange (g .sizes .shape) (g .entries)) (h .in-range)
-
   inside : i < S .entries
-  inside = omega (arith, count)
+  inside = omega (arith, entries-is h)
 
   there : noFigureFor S i ≡ false
   there = figure-there (start .pre .keyed) i inside
@@ -84,14 +76,13 @@ module _ (c : tie.After-read-entry Inv-loop μ-loop) where
 
   key-read : c .before .before .size-at .result ≡ S here .key (i here)
   key-read =
-      c .before .before .size-at .ensures .is ∙ (λ j. unsignedAt 2 (s here) (h here .is j .length + 2 * i here))
+      c .before .before .size-at .ensures .is ∙ ap (unsignedAt 2 (s here)) (omega (arith, keys-begin (h here)))
 
   value-read : toZ w32 (ofZ w32 (c .before .signed-32 .result)) ≡ S here .value (i here)
   value-read =
       let number = c .before .signed-32 in
       let fits : SFits w32 (number .result) = search needs in
-      toZ-ofZ fits ∙ number .ensures
-      ∙ (λ j. let g = h here .is j in signedAt 4 (s here) (g .length + 2 * g .entries + 4 * i here))
+      toZ-ofZ fits ∙ number .ensures ∙ ap (signedAt 4 (s here)) (omega (arith, entries-is (h here), keys-begin (h here)))
 
   read-is : entryAnswered (c .read-entry .result)
       ≡ unless 6 (badValue (S here) (i here)) (gives (S here .value (i here)))
@@ -132,7 +123,7 @@ module _ (c : tie.After-known-told Inv-loop μ-loop) where
   value-kept = let fits : SFits w32 value = search needs in toZ-ofZ fits ∙ sym (same-gives _ _ (says .1))
 
   in-table : InTable (rowOf (S a .key (i a))) (columnOf (S a .key (i a)))
-  in-table = figure-in-table _ _ (sizes a) (there a)
+  in-table = figure-in-table _ _ (sheet-in-range (h a)) (there a)
 
 place-at-requires : tie.Need-place-at-requires Inv-loop μ-loop
 place-at-requires c κs = rw (key-read (entry c)) (in-table c)
@@ -162,9 +153,8 @@ unfolding refusalOf valueRefusal storedBy
 returns-2 c =
     let ended = c .before in
     let start = ended .before .before .before .before in
-    let count = ap (λ (g : Header). g .entries) (start .pre .keyed .headed .is) in
     let all : ended .loop .i ≡ start .args .header .entries = omega arith in (
-      sym (first-end _ (all ∙ count) (ended .loop .inv .values)),
+      sym (first-end _ (all ∙ entries-is (start .pre .keyed .headed)) (ended .loop .inv .values)),
       ended .loop .inv .stored ∙ ap (λ k. tabled (valueUnder (sheetOf (start .args .s .now)) k)) all,
     )
 
