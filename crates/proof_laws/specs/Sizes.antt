@@ -9,15 +9,11 @@ use lib.Ieee.Fits.{and-l, and-r}
 use mir.Facts.{leb-yes}
 use Rattle.rules.specs.declared.Shape.{Shape}
 use Rattle.rules.specs.Sheet.{headerLength}
-use Rattle.rules.specs.Ranges.{between, mostEntries, dimensionsInRange}
-
--- the largest shape
-abbrev pub largest : Shape
-largest = record { materials = 32; limits = 16 }
+use Rattle.rules.specs.Ranges.{between, mostEntries, largest, dimensionsInRange}
 
 -- where n and m lie in their ranges, few entries are allowed
-pub few-entries : {shape : Shape} → shape .materials ≤ 32 → shape .limits ≤ 16 → mostEntries shape ≤ mostEntries largest
-few-entries {shape} narrow few =
+pub few-entries : (shape : Shape) → shape .materials ≤ 32 → shape .limits ≤ 16 → mostEntries shape ≤ mostEntries largest
+few-entries shape narrow few =
     let width : shape .limits + 3 ≤ 19 = omega arith in
     let product : shape .materials * (shape .limits + 3) ≤ 32 * 19 = mul-le-mul narrow width in
     omega arith
@@ -39,7 +35,7 @@ dimensions shape e h =
       some-material = search (and-l, and-r, leb-yes);
       narrow = narrow;
       few = few;
-      entries = le-trans most (few-entries narrow few);
+      entries = le-trans most (few-entries shape narrow few);
     }
 
 -- a header is short, so that no place of a sheet wraps

@@ -17,7 +17,7 @@ use Rattle.rules.specs.declared.Cause.the-variants.{Short, Dimensions, L
 use Rattle.rules.specs.Bytes.{signedAt, unsignedBytes, laid}
 use Rattle.rules.specs.Sheet.{headerLength, sheetLength}
 use Rattle.rules.specs.Encoder.{sizesWith}
-use Rattle.rules.specs.Ranges.{ranges, indexOf, rangeOf, mostEntries}
+use Rattle.rules.specs.Ranges.{ranges, indexOf, rangeOf, mostEntries, largest}
 use Rattle.rules.specs.Record.{recordLength, longestRecord}
 use Rattle.rules.specs.Refusals.{layoutRefusal}
 use Rattle.rules.specs.Listing.{text}
@@ -151,7 +151,7 @@ unfolding headerLength
 sheet-length e = omega arith
 
 -- the longest sheet has 3,756 bytes
-pub longest : sheetLength (mostEntries (record { materials = 32; limits = 16 })) ≡ 3756
+pub longest : sheetLength (mostEntries largest) ≡ 3756
 unfolding headerLength
 longest = refl
 

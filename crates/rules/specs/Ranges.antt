@@ -64,10 +64,16 @@ between least greatest x = leb least x && leb x greatest
 abbrev pub mostEntries : Shape → ℕ
 mostEntries shape = shape .materials * (shape .limits + 3) + shape .limits
 
+-- the largest shape
+abbrev pub largest : Shape
+largest = record { materials = 32; limits = 16 }
+
 -- n is 1 to 32, m is 0 to 16, e is at most n(m+3)+m
 unfoldable pub dimensionsInRange : Shape → ℕ → Bool
 dimensionsInRange shape e =
-    between 1 32 (shape .materials) && between 0 16 (shape .limits) && between 0 (mostEntries shape) e
+    between 1 (largest .materials) (shape .materials)
+    && between 0 (largest .limits) (shape .limits)
+    && between 0 (mostEntries shape) e
 
 -- p and D are 1 to 1,024; k is 1 to 4,096
 unfoldable pub parametersInRange : Sizes → Bool

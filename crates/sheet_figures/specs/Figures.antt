@@ -1,15 +1,13 @@
 -- The arrays of a problem with k steps, and the problem that stands in arrays.
 use mathlib.Core.Path.{_≡_, refl, _∙_}
-use mathlib.Core.List.{List}
+use mathlib.Core.List.{List, []}
 use Prim.Native.Nat.{ℕ, _+_, _*_, _<_, _≤_}
 use native.Mathlib.Nat.{zero-add}
 use native.Mathlib.Omega.{arith}
 use lib.IntN.{ℤ, pos}
 use lib.ListN.{length, replicate, length-replicate}
-use Rattle.rules.specs.declared.Sizes.{Sizes}
 use Rattle.rules.specs.Notation.{at}
 use Rattle.rules.specs.Problem.{Problem}
-use Rattle.rules.specs.Sheet.{problemFrom}
 use Rattle.proof_laws.specs.Agreeing.{Agree}
 use Rattle.sheet_figures.specs.declared.Figures.{Figures}
 use Rattle.sheet_figures.specs.Put.{put, putRows, put-cong, put-here, rows-cong, rows-here}
@@ -36,13 +34,6 @@ figuresOf P k = record {
 unfoldable pub coefficientsOver : List ℤ → Problem → List ℤ
 coefficientsOver lent P = putRows lent (P .limits) (P .materials) (P .coefficient)
 
--- no figures: every size and every place is 0
-unfoldable pub noFigures : Figures
-noFigures =
-    let sizes : Sizes =
-    record { shape = record { materials = 0; limits = 0 }; numerator = 0; scale = 0; steps = 0 } in
-    figuresOf (problemFrom sizes (λ _. pos 0)) 0
-
 -- ---- the problem whose figures stand in arrays
 abbrev pub problemIn : (n m p D : ℕ) → (c l u a b : List ℤ) → Problem
 problemIn n m p D c l u a b = record {
@@ -62,6 +53,11 @@ abbrev pub problemOf : Figures → List ℤ → Problem
 problemOf F a =
     problemIn (F .materials) (F .limits) (F .numerator) (F .scale) (F .cost) (F .least) (F .most) a (F .rhs)
 
+-- no figures: every size and every place is 0
+unfoldable pub noFigures : Figures
+noFigures = figuresOf (problemIn 0 0 0 0 [] [] [] [] []) 0
+
+-- ---- what stands at each place
 -- figure j stands at place j
 row-here : (room n : ℕ) (f : ℕ → ℤ) → n ≤ room → (j : ℕ) → j < n → at (row room n f) j ≡ f j
 unfolding row

@@ -1,13 +1,12 @@
 -- The record is the definition's.
 use mathlib.Core.Path.{refl}
-use Rattle.rules.specs.Sheet.{problemFrom}
 use Rattle.sheet_figures.specs.Put.{put}
 use Rattle.sheet_figures.specs.Figures.{row, figuresOf, noFigures}
 use Rattle.sheet_read.proofs.no_figures.Statement.{statement}
 use Rattle.sheet_read.proofs.no_figures.Tie as tie
 
 returns : tie.Need-returns
-unfolding noFigures figuresOf problemFrom row put
+unfolding noFigures figuresOf row put
 returns c = refl
 
 pub no-figures-spec : {M : Type 1} → statement M

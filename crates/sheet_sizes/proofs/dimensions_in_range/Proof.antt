@@ -1,22 +1,24 @@
 -- The product is formed where n and m lie in their ranges, and is small then.
-use Prim.Native.Nat.{ℕ, _+_, _*_, _≤_, zero-le}
+use Prim.Native.Nat.{_≤_, zero-le}
 use mathlib.Core.Path.{_≡_, ap}
 use mathlib.Core.Bool.{true, _&&_, and-eq-true-iff}
 use native.Mathlib.Omega.{arith}
 use lib.Dec.{leb}
 use borrow.Author.Needs.{needs}
 use borrow.Author.Tests.{le-leb, leb-true}
-use Rattle.rules.specs.Ranges.{between, mostEntries, dimensionsInRange}
-use Rattle.proof_laws.specs.Sizes.{largest, few-entries}
+use Rattle.rules.specs.declared.Shape.{Shape}
+use Rattle.rules.specs.Ranges.{between, mostEntries, largest, dimensionsInRange}
+use Rattle.proof_laws.specs.Sizes.{few-entries}
 use Rattle.sheet_sizes.proofs.dimensions_in_range.Statement.{statement}
 use Rattle.sheet_sizes.proofs.dimensions_in_range.Tie as tie
 
 -- n and m in their ranges leave so few entries that no sum wraps
-few : (n m : ℕ) → (between 1 32 n && between 0 16 m) ≡ true → n * (m + 3) + m ≤ mostEntries largest
+few : (shape : Shape) → (between 1 32 (shape .materials) && between 0 16 (shape .limits)) ≡ true
+    → mostEntries shape ≤ mostEntries largest
 unfolding between
-few n m h =
+few shape h =
     let both = simp and-eq-true-iff at h in
-    few-entries {shape = record { materials = n; limits = m }} (omega (arith, leb-true)) (omega (arith, leb-true))
+    few-entries shape (omega (arith, leb-true)) (omega (arith, leb-true))
 
 -- the test that the code has passed, as the definition has it
 passed : (c : tie.Then1) → let a = c .before .before .before .args in
@@ -24,13 +26,13 @@ passed : (c : tie.Then1) → let a = c .before .before .before .args in
 passed c = rw (c .before .before .between .ensures, c .before .between2 .ensures) at (c .if1 .taken)
 
 add-result : tie.Need-add-result
-add-result c = omega (arith, few _ _ (passed c))
+add-result c = omega (arith, few _ (passed c))
 
 mul-result : tie.Need-mul-result
-mul-result c = omega (arith, few _ _ (passed c))
+mul-result c = omega (arith, few _ (passed c))
 
 add-result-2 : tie.Need-add-result-2
-add-result-2 c = omega (arith, few _ _ (passed c))
+add-result-2 c = omega (arith, few _ (passed c))
 
 returns : tie.Need-returns
 unfolding dimensionsInRange between
