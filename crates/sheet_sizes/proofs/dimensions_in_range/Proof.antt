@@ -21,18 +21,20 @@ few shape h =
     few-entries shape (omega (arith, leb-true)) (omega (arith, leb-true))
 
 -- the test that the code has passed, as the definition has it
-passed : (c : tie.Then1) → let a = c .before .before .before .args in
-    (between 1 32 (a .shape .materials) && between 0 16 (a .shape .limits)) ≡ true
+abbrev asked : tie.Then1 → Shape
+asked c = c .before .before .before .args .shape
+
+passed : (c : tie.Then1) → (between 1 32 (asked c .materials) && between 0 16 (asked c .limits)) ≡ true
 passed c = rw (c .before .before .between .ensures, c .before .between2 .ensures) at (c .if1 .taken)
 
 add-result : tie.Need-add-result
-add-result c = omega (arith, few _ (passed c))
+add-result c = omega (arith, few (asked c) (passed c))
 
 mul-result : tie.Need-mul-result
-mul-result c = omega (arith, few _ (passed c))
+mul-result c = omega (arith, few (asked c) (passed c))
 
 add-result-2 : tie.Need-add-result-2
-add-result-2 c = omega (arith, few _ (passed c))
+add-result-2 c = omega (arith, few (asked c) (passed c))
 
 returns : tie.Need-returns
 unfolding dimensionsInRange between
