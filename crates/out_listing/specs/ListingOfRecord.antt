@@ -8,11 +8,10 @@ use Rattle.rules.specs.declared.Answer.{Answer}
 use Rattle.rules.specs.Sheet.{sheetOf}
 use Rattle.rules.specs.Run.{Plan, planAfter}
 use Rattle.rules.specs.Record.{recordLength}
-use Rattle.rules.specs.Refusals.{Numbered}
-use Rattle.rules.specs.Answers.{planOf, planRefusal, unlessRefused, outcome, answer, bufferOf, bufferAfter}
+use Rattle.rules.specs.Refusals.{Numbered, layoutRefusal}
+use Rattle.rules.specs.Answers.{planOf, planRefusal, refusal, outcome, outcomeOf, answerTo, answer, bufferOf, bufferAfter}
 use Rattle.rules.specs.Listing.{textOf, textFrom, listing}
 use Rattle.rules.specs.Promise.{Promise}
-use Rattle.proof_laws.specs.Answering.{refusal, outcomeOf, answer-is}
 use Rattle.proof_laws.specs.NotRefused.{otherwise-none}
 use Rattle.proof_magnitudes.specs.Accepted.{accepted}
 use Rattle.proof_magnitudes.specs.PlanFits.{plan-fits}
@@ -24,9 +23,9 @@ module _ (s lent : List ℕ) where
   p = planOf (sheetOf s)
 
   -- where a refusal is met, and where none is
-  by : (met : Option Numbered) → refusal s (length lent) ≡ met
+  by : (met : Option Numbered) → refusal (sheetOf s) (layoutRefusal s) (length lent) ≡ met
       → textFrom (outcomeOf p met) (bufferOf p lent (outcomeOf p met)) ≡ textOf p (outcomeOf p met)
-  unfolding refusal planRefusal planAfter planOf unlessRefused bufferOf textFrom textOf
+  unfolding refusal planRefusal planAfter planOf outcomeOf bufferOf textFrom textOf
   by (some r) e = refl
   by none e =
       let (layout, later) = otherwise-none _ _ e in
@@ -39,8 +38,8 @@ module _ (s lent : List ℕ) where
 
   -- the law for every sheet and every buffer
   pub listing-of-record : textFrom (answer s (length lent)) (bufferAfter s lent) ≡ listing s (length lent)
-  unfolding bufferAfter listing
-  listing-of-record = rw (answer-is s (length lent)) (by (refusal s (length lent)) refl)
+  unfolding answer answerTo bufferAfter listing
+  listing-of-record = by (refusal (sheetOf s) (layoutRefusal s) (length lent)) refl
 
 -- What a planned sheet's answer and record say is the listing of the sheet.
 pub listing-is : {s lent after : List ℕ} {result : Answer} {room : ℕ} → Promise s lent after result

@@ -1,5 +1,5 @@
 -- How planning ends: with a refusal and the buffer as lent, or with a plan and its record.
-use mathlib.Core.Path.{_≡_, sym, ap, subst, transport, _∙_}
+use mathlib.Core.Path.{_≡_, sym, subst, transport, _∙_}
 use mathlib.Core.List.{List, _++_}
 use mathlib.Core.Option.{Option, none, some}
 use Prim.Native.Nat.{ℕ, _≤_}
@@ -13,11 +13,10 @@ use Rattle.rules.specs.Sheet.{sheetOf}
 use Rattle.rules.specs.Step as step
 use Rattle.rules.specs.Run.{Plan, stateAfter, lowAfter, gapOf, planAfter}
 use Rattle.rules.specs.Record.{recordOf, recordLength}
-use Rattle.rules.specs.Refusals.{Numbered, numbered}
-use Rattle.rules.specs.Answers.{plan, planOf, outcome, unlessRefused, bufferOf, bufferAfter}
+use Rattle.rules.specs.Refusals.{Numbered, numbered, layoutRefusal}
+use Rattle.rules.specs.Answers.{plan, planOf, refusal, outcome, outcomeOf, answerTo, answer, bufferOf, bufferAfter}
 use Rattle.rules.specs.Margins.{Margins}
 use Rattle.rules.specs.Promise.{Promise}
-use Rattle.proof_laws.specs.Answering.{refusal, outcomeOf, answer-is}
 use Rattle.proof_laws.specs.Lengths.{multipliers-length, sums-length, totals-length}
 use Rattle.proof_margins.specs.Theorem.{margins}
 use Rattle.sheet_figures.specs.declared.Figures.{Figures}
@@ -34,13 +33,13 @@ use Rattle.planner.specs.Finish.{Ends, planWith, WriteReady}
 
 -- a refusal leaves the buffer as lent
 pub ends-refused : {p : Plan} {met : Option Numbered} {lent : List ℕ} (r : Refusal) → met ≡ some (numbered r) → Ends p met lent lent (Answer.Refused r)
-unfolding outcome unlessRefused bufferOf
+unfolding outcome outcomeOf bufferOf
 ends-refused {p} {met} {lent} r m = record { answered = λ i. outcomeOf p (sym m i); buffer = λ i. bufferOf p lent (outcomeOf p (sym m i)) }
 
 -- a plan is followed in the buffer by the rest as lent
 pub ends-planned : {p : Plan} {lent left : List ℕ} {low gap : ℤ} → low ≡ p .low → gap ≡ p .gap
     → left ≡ recordOf p ++ drop (recordLength (p .materials) (p .limits)) lent → Ends p none lent left (Answer.Plan low gap)
-unfolding outcome unlessRefused bufferOf
+unfolding outcome outcomeOf bufferOf
 ends-planned l g b = record { answered = λ i. plan (l i) (g i); buffer = b }
 
 -- the same end, by another plan and another refusal that are equal
@@ -105,12 +104,11 @@ module _ (f : Figures) (a : List ℤ) {w : State} (reached : Reached f a (f .ste
 
 -- ---- the promise, from the end
 pub promised : {sheet lent left : List ℕ} {r : Answer}
-    → Ends (planOf (sheetOf sheet)) (refusal sheet (length lent)) lent left r → Promise sheet lent left r
-unfolding bufferAfter
-promised {sheet} {lent} e =
-    let answered = e .answered ∙ sym (answer-is sheet (length lent)) in
-    record {
-      answered = answered;
-      buffer = e .buffer ∙ ap (bufferOf (planOf (sheetOf sheet)) lent) (sym (answer-is sheet (length lent)));
-      margins = subst (Margins sheet) (sym answered) (margins sheet (length lent));
-    }
+    → Ends (planOf (sheetOf sheet)) (refusal (sheetOf sheet) (layoutRefusal sheet) (length lent)) lent left r
+    → Promise sheet lent left r
+unfolding answer answerTo bufferAfter
+promised {sheet} {lent} e = record {
+  answered = e .answered;
+  buffer = e .buffer;
+  margins = subst (Margins sheet) (sym (e .answered)) (margins sheet (length lent));
+}

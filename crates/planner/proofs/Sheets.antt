@@ -11,8 +11,7 @@ use Rattle.rules.specs.Sheet.{sheetOf, problem}
 use Rattle.rules.specs.Run.{planAfter}
 use Rattle.rules.specs.Record.{recordLength}
 use Rattle.rules.specs.Refusals.{Numbered, refuse, _otherwise_, layoutRefusal}
-use Rattle.rules.specs.Answers.{stepRefusal, planOf, planRefusal}
-use Rattle.proof_laws.specs.Answering.{refusal}
+use Rattle.rules.specs.Answers.{planRefusal, planOf, refusal}
 use Rattle.proof_laws.specs.FirstPlace.{given, handed-on}
 use Rattle.proof_laws.specs.Agreeing.{Agree, same-refusal, same-plan}
 use Rattle.proof_magnitudes.specs.Accepted.{Accepted, accepted, accepted-same}
@@ -45,19 +44,16 @@ module _ (s : List ℕ) (read : layoutRefusal s ≡ none)
 
   -- refusals 8 to 10 of the figures are those of the sheet
   pub refusal-is : (room : ℕ)
-      → refuse 8 (recordLength (F .materials) (F .limits)) (ltb room (recordLength (F .materials) (F .limits)))
-      otherwise stepRefusal (problemOf F a) (F .steps)
-      ≡ refusal s room
+      → planRefusal (problemOf F a) (F .steps) room ≡ refusal (sheetOf s) (layoutRefusal s) room
   unfolding figuresOf refusal planRefusal
   refusal-is room =
       let wanted = recordLength (P .materials) (P .limits) in
-      (λ i.
-      let length = recordLength (e i .materials) (e i .limits) in
-      refuse 8 length (ltb room length) otherwise stepRefusal (problemOf (e i) (c i)) (e i .steps))
+      (λ i. planRefusal (problemOf (e i) (c i)) (e i .steps) room)
       ∙ (λ i. refuse 8 wanted (ltb room wanted) otherwise same-refusal agree k i)
-      ∙ sym (handed-on (planRefusal (sheetOf s) room) read)
+      ∙ sym (handed-on (planRefusal P k room) read)
 
 -- ---- a sheet that is turned back
-pub turned-back : (s : List ℕ) (room : ℕ) {r : Numbered} → layoutRefusal s ≡ some r → refusal s room ≡ some r
+pub turned-back : (s : List ℕ) (room : ℕ) {r : Numbered} → layoutRefusal s ≡ some r
+    → refusal (sheetOf s) (layoutRefusal s) room ≡ some r
 unfolding refusal
 turned-back s room h = given _ h

@@ -10,8 +10,7 @@ use Rattle.rules.specs.Notation.{at}
 use Rattle.rules.specs.Run.{Plan, gapOf}
 use Rattle.rules.specs.Record.{recordLength}
 use Rattle.rules.specs.Refusals.{Numbered}
-use Rattle.rules.specs.Answers.{outcome, bufferOf}
-use Rattle.proof_laws.specs.Answering.{outcomeOf}
+use Rattle.rules.specs.Answers.{outcome, outcomeOf, bufferOf}
 use Rattle.proof_magnitudes.specs.Accepted.{Accepted}
 use Rattle.sheet_figures.specs.declared.Figures.{Figures}
 use Rattle.sheet_figures.specs.Figures.{problemOf}

@@ -1,11 +1,8 @@
 // Plans a sheet: its bytes and a lent buffer to the answer, with the record in the buffer.
 ghost use mathlib.Core.Option.{none};
-ghost use lib.Dec.{ltb};
 ghost use lib.ListN.{length};
 ghost use Rattle.rules.specs.Run.{planAfter};
-ghost use Rattle.rules.specs.Record.{recordLength};
-ghost use Rattle.rules.specs.Refusals.{refuse, _otherwise_};
-ghost use Rattle.rules.specs.Answers.{stepRefusal};
+ghost use Rattle.rules.specs.Answers.{stepRefusal, planRefusal};
 ghost use Rattle.rules.specs.Promise.{Promise};
 ghost use Rattle.proof_magnitudes.specs.Accepted.{Accepted};
 ghost use Rattle.sheet_figures.specs.Figures.{problemOf};
@@ -63,8 +60,7 @@ fn plan_run(f: Figures, coefficient: &[i16; 512], record: &mut [u8]) -> Answer
 fn plan_figures(f: Figures, coefficient: &[i16; 512], record: &mut [u8]) -> Answer
     requires { ⌜ Accepted (problemOf f (now coefficient)) (f .steps) ⌝ }
     ensures { λ r. ⌜ Ends (planAfter (problemOf f (now (coefficient .entry))) (f .steps))
-        (refuse 8 (recordLength (f .materials) (f .limits)) (ltb (length (now («record» .entry))) (recordLength (f .materials) (f .limits)))
-        otherwise stepRefusal (problemOf f (now (coefficient .entry))) (f .steps))
+        (planRefusal (problemOf f (now (coefficient .entry))) (f .steps) (length (now («record» .entry))))
         (now («record» .entry)) (now («record» .exit)) r ⌝ }
 {
     let wanted = record_length(f.materials, f.limits);

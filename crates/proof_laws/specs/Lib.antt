@@ -6,7 +6,6 @@
 --   Below        what holds at every place below n
 --   NotRefused   what follows where nothing is refused
 --   FirstPlace   the chain of refusals and the first place, as code meets them
---   Answering    the one refusal of a sheet's bytes, and the answer by it
 --   Agreeing     only the figures of the n materials and the m limits count
 pub mod Read
 pub mod Entries
@@ -15,5 +14,4 @@ pub mod Lengths
 pub mod Below
 pub mod NotRefused
 pub mod FirstPlace
-pub mod Answering
 pub mod Agreeing

@@ -19,7 +19,6 @@ few-entries shape narrow few =
     omega arith
 
 pub record SizesInRange (shape : Shape) (e : ℕ) : Type 0 where
-  pub some-material : 1 ≤ shape .materials
   pub narrow : shape .materials ≤ 32
   pub few : shape .limits ≤ 16
   pub entries : e ≤ mostEntries largest
@@ -32,7 +31,6 @@ dimensions shape e h =
     let few : shape .limits ≤ 16 = search (and-l, and-r, leb-yes) in
     let most : e ≤ mostEntries shape = search (and-l, and-r, leb-yes) in
     record {
-      some-material = search (and-l, and-r, leb-yes);
       narrow = narrow;
       few = few;
       entries = le-trans most (few-entries shape narrow few);

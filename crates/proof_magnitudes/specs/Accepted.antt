@@ -23,7 +23,7 @@ use Rattle.rules.specs.Problem.{Problem}
 use Rattle.rules.specs.Sheet.{Sheet, sheetOf, keyOf, rowOf, columnOf, valueUnder, tableOf, problemFrom, problem}
 use Rattle.rules.specs.Ranges.{_from_to_, ranges, indexOf, rangeOf, kindAt, inRange, between, dimensionsInRange, parametersInRange}
 use Rattle.rules.specs.Run.{startingMultiplier}
-use Rattle.rules.specs.Refusals.{badValue, crossed, layoutRefusal}
+use Rattle.rules.specs.Refusals.{valueBad, badValue, crossed, sizesRefusal, valueRefusal, boundRefusal, layoutRefusal}
 use Rattle.proof_laws.specs.Entries.{key-parts, coefficient-kind, rhs-kind}
 use Rattle.proof_laws.specs.Agreeing.{Agree}
 use Rattle.proof_laws.specs.NotRefused.{otherwise-none, refuse-none, first-none}
@@ -55,18 +55,18 @@ record Passed (S : Sheet) : Type 0 where
   dimensions : T (dimensionsInRange (S .sizes .shape) (S .entries))
   parameters : T (parametersInRange (S .sizes))
   values : (i : ℕ) → i < S .entries → T (not (badValue S i))
-  bounds : (j : ℕ) → j < S .sizes .shape .materials → T (not (crossed S j))
+  bounds : (j : ℕ) → j < S .sizes .shape .materials → T (not (crossed (tableOf S) j))
 
 -- the chain of refusals 1 to 7, link by link
 passed : (s : List ℕ) → layoutRefusal s ≡ none → Passed (sheetOf s)
-unfolding layoutRefusal
+unfolding layoutRefusal sizesRefusal valueRefusal boundRefusal
 passed s h =
     let (short, h) = otherwise-none _ _ h in
-    let (dimensions, h) = otherwise-none _ _ h in
-    let (length, h) = otherwise-none _ _ h in
-    let (parameters, h) = otherwise-none _ _ h in
+    let (sizes, h) = otherwise-none _ _ h in
     let (keys, h) = otherwise-none _ _ h in
     let (values, bounds) = otherwise-none _ _ h in
+    let (dimensions, sizes) = otherwise-none _ _ sizes in
+    let (length, parameters) = otherwise-none _ _ sizes in
     record {
       dimensions = search (T-not-not, refuse-none);
       parameters = search (T-not-not, refuse-none);
@@ -118,7 +118,7 @@ module _ (S : Sheet) (h : Passed S) where
 
   -- the value of an entry lies in the range at its row and column
   value-in : (i : ℕ) → i < S .entries → Within (rangeAt shape (rowOf (S .key i)) (columnOf (S .key i))) (S .value i)
-  unfolding badValue inRange
+  unfolding badValue valueBad inRange
   value-in i l =
       let r = rangeAt shape (rowOf (S .key i)) (columnOf (S .key i)) in
       let (nonzero, good) = or-no (isZero (S .value i)) (not (inRange r (S .value i))) (h .values i l) in

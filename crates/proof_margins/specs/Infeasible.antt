@@ -10,9 +10,8 @@ use Rattle.rules.specs.Problem.{Problem, NoneFeasible}
 use Rattle.rules.specs.Sheet.{sheetOf, problem}
 use Rattle.rules.specs.Step.{lookAt, infeasible}
 use Rattle.rules.specs.Run.{lookAfter}
-use Rattle.rules.specs.Refusals.{Numbered, refuse, _otherwise_, firstBelow, layoutRefusal}
-use Rattle.rules.specs.Answers.{refusalAt, stepRefusal, planRefusal}
-use Rattle.proof_laws.specs.Answering.{refusal}
+use Rattle.rules.specs.Refusals.{Numbered, refuse, _otherwise_, firstBelow, sizesRefusal, keyRefusal, valueRefusal, boundRefusal, layoutRefusal}
+use Rattle.rules.specs.Answers.{refusalAt, stepRefusal, planRefusal, refusal}
 use Rattle.proof_magnitudes.specs.Accepted.{accepted}
 use Rattle.proof_margins.specs.WeakDuality.{none-feasible}
 use Rattle.proof_magnitudes.specs.Steps.{StartSign}
@@ -59,10 +58,10 @@ module _ (P : Problem) (start-sign : StartSign P) where
 -- ---- the sheet: refusals 1 to 7, and then 8 and the steps
 module _ (s : List ℕ) where
   layout-margins : RefusalMargins (problem (sheetOf s)) (layoutRefusal s)
-  unfolding layoutRefusal
+  unfolding layoutRefusal sizesRefusal keyRefusal valueRefusal boundRefusal
   layout-margins = search (otherwise-margins, first-margins, other-margins) depth 20
 
-  pub refusal-margins : (room : ℕ) → RefusalMargins (problem (sheetOf s)) (refusal s room)
+  pub refusal-margins : (room : ℕ) → RefusalMargins (problem (sheetOf s)) (refusal (sheetOf s) (layoutRefusal s) room)
   unfolding refusal planRefusal
   refusal-margins room =
       otherwise-margins _ _ _ layout-margins

@@ -6,29 +6,31 @@ use Prim.Native.Nat.{ℕ}
 use Rattle.rules.specs.Sheet.{sheetOf, problem}
 use Rattle.rules.specs.Run.{planAfter}
 use Rattle.rules.specs.Refusals.{Numbered, layoutRefusal}
-use Rattle.rules.specs.Answers.{unlessRefused, planOf, answer}
+use Rattle.rules.specs.Answers.{outcomeOf, planOf, refusal, answerTo, answer}
 use Rattle.rules.specs.Margins.{Margins}
-use Rattle.proof_laws.specs.Answering.{refusal, outcomeOf, answer-is}
 use Rattle.proof_laws.specs.NotRefused.{otherwise-none}
 use Rattle.proof_magnitudes.specs.Accepted.{accepted}
 use Rattle.proof_margins.specs.Plans.{plan-margins}
 use Rattle.proof_margins.specs.Infeasible.{RefusalMargins, refusal-margins}
 
 module _ (sheet : List ℕ) (room : ℕ) where
+  abbrev met : Option Numbered
+  met = refusal (sheetOf sheet) (layoutRefusal sheet) room
+
   -- a sheet that is not refused follows the layout
-  read : refusal sheet room ≡ none → layoutRefusal sheet ≡ none
+  read : met ≡ none → layoutRefusal sheet ≡ none
   unfolding refusal
   read h = otherwise-none _ _ h .0
 
   -- where there is a refusal, what is claimed of it; else the margins of the plan
-  by-refusal : (r : Option Numbered) → refusal sheet room ≡ r → RefusalMargins (problem (sheetOf sheet)) r
+  by-refusal : (r : Option Numbered) → met ≡ r → RefusalMargins (problem (sheetOf sheet)) r
       → Margins sheet (outcomeOf (planOf (sheetOf sheet)) r)
-  unfolding Margins unlessRefused planOf planAfter
+  unfolding Margins outcomeOf planOf planAfter
   by-refusal (some r) _ claim = claim
   by-refusal none e _ =
       plan-margins (problem (sheetOf sheet)) (accepted sheet (read e) .start-sign) (sheetOf sheet .sizes .steps)
 
 -- Demand 3.
 pub margins : (sheet : List ℕ) (room : ℕ) → Margins sheet (answer sheet room)
-margins sheet room =
-    rw (answer-is sheet room) (by-refusal sheet room (refusal sheet room) refl (refusal-margins sheet room))
+unfolding answer answerTo
+margins sheet room = by-refusal sheet room (met sheet room) refl (refusal-margins sheet room)

@@ -33,30 +33,34 @@ refusalAt P t =
 unfoldable pub stepRefusal : Problem → ℕ → Option Numbered
 stepRefusal P k = firstBelow k (refusalAt P)
 
--- a refusal where there is one, else this answer
-unfoldable pub unlessRefused : Option Numbered → Outcome → Outcome
-unlessRefused none a = a
-unlessRefused (some r) a = refused r
+-- refusal 8, of a record buffer of `room` bytes, and then those of k steps
+unfoldable pub planRefusal : Problem → ℕ → ℕ → Option Numbered
+planRefusal P k room =
+    let wanted = recordLength (P .materials) (P .limits) in
+    refuse 8 wanted (ltb room wanted) otherwise stepRefusal P k
 
--- Of a sheet that has been read and follows the layout:
+-- a refusal where there is one, else the plan's figures
+unfoldable pub outcomeOf : Plan → Option Numbered → Outcome
+outcomeOf p none = plan (p .low) (p .gap)
+outcomeOf p (some r) = refused r
+
+-- Of a sheet that has been read, and what its layout was refused with, if anything:
 module _ (S : Sheet) where
-  -- its plan
+  -- the plan of a sheet that is not refused
   unfoldable pub planOf : Plan
   planOf = planAfter (problem S) (S .sizes .steps)
 
-  -- refusal 8, of a record buffer of `room` bytes, and then those of the steps
-  unfoldable pub planRefusal : ℕ → Option Numbered
-  planRefusal room =
-      let wanted = recordLength (problem S .materials) (problem S .limits) in
-      refuse 8 wanted (ltb room wanted) otherwise stepRefusal (problem S) (S .sizes .steps)
+  -- its one refusal, if any: that of the layout, then 8, then those of the steps
+  unfoldable pub refusal : Option Numbered → ℕ → Option Numbered
+  refusal layout room = layout otherwise planRefusal (problem S) (S .sizes .steps) room
 
   -- the answer to it
-  unfoldable pub answerTo : ℕ → Outcome
-  answerTo room = unlessRefused (planRefusal room) (plan (planOf .low) (planOf .gap))
+  unfoldable pub answerTo : Option Numbered → ℕ → Outcome
+  answerTo layout room = outcomeOf planOf (refusal layout room)
 
 -- The answer to a sheet's bytes and a record buffer of `room` bytes.
 unfoldable pub answer : List ℕ → ℕ → Outcome
-answer s room = unlessRefused (layoutRefusal s) (answerTo (sheetOf s) room)
+answer s room = answerTo (sheetOf s) (layoutRefusal s) room
 
 -- for a plan the record, then the rest as lent; for a refusal the buffer as lent
 unfoldable pub bufferOf : Plan → List ℕ → Outcome → List ℕ

@@ -1,10 +1,10 @@
 -- Document 01 as definitions that compute. This is what a reader must believe; read it beside the paper, in this order:
---   Notation   −n, the larger of two, finite sums, lists by their places
+--   Notation   −n, the test for 0, the larger of two, finite sums, lists by their places
 --   Problem    materials, costs, bounds and limits; feasible points
 --   Bytes      little-endian numbers of a width
 --   Sheet      the layout of a batch sheet, and its figures by key
---   Encoder    from sizes and a table of figures to the bytes of a sheet
 --   Ranges     the table of ranges, and the ranges of the sizes
+--   Encoder    from sizes and a table of figures to the bytes of a sheet
 --   Step       one step of the method
 --   Run        k steps, and the plan that they give
 --   Record     the bytes of a plan, and the plan that such bytes hold
@@ -24,8 +24,8 @@ pub mod Notation
 pub mod Problem
 pub mod Bytes
 pub mod Sheet
-pub mod Encoder
 pub mod Ranges
+pub mod Encoder
 pub mod Step
 pub mod Run
 pub mod Record

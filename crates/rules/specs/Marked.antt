@@ -1,5 +1,6 @@
 -- Document 01, "Marked sheets": C1 to C10, one table, and one proof that it follows from the definitions.
 use mathlib.Core.Path.{_≡_, refl}
+use Prim.Native.Nat.{ℕ}
 use mathlib.Core.List.{List, [], _∷_, map}
 use lib.IntN.{pos}
 use Rattle.rules.specs.Notation.{neg, at}
@@ -128,19 +129,39 @@ pub marked : AllHold table
 unfolding Holds AllHold
 marked = ((refl, refl, refl, refl), ((refl, refl, refl, refl), ((refl, refl, refl, refl), ((refl, refl, refl, refl), ((refl, refl, refl, refl), ((refl, refl, refl, refl), ((refl, refl, refl, refl), ((refl, refl, refl, refl), ((refl, refl, refl, refl), ((refl, refl, refl, refl), tt))))))))))
 
--- Their bytes are what is written of their sizes and tables; a table has no order, and a figure of 0 has no entry.
+-- ---- their bytes: the six sizes, the keys, the values
+abbrev pub sheets : List (List ℕ)
+sheets =
+    hex "0200 0100 0700 0100 0800 0400  0000 0100 8000 8100 c000 c100 c200  03000000 01000000 0a000000 0a000000 feffffff ffffffff f4ffffff" ∷
+    hex "0200 0100 0700 0100 0800 0100  0000 0100 8000 8100 c000 c100 c200  03000000 01000000 0a000000 0a000000 feffffff ffffffff f4ffffff" ∷
+    hex "0100 0100 0400 0100 0100 0200  0000 8000 c000 c100  01000000 01000000 ffffffff fbffffff" ∷
+    hex "0100 0100 0400 0100 0100 0100  0000 8000 c000 c100  01000000 01000000 ffffffff fbffffff" ∷
+    hex "0100 0100 0100 0004 0100 0100  c100  ffffefff" ∷
+    hex "0100 0100 0100 0004 0100 0100  c100  0000f0ff" ∷
+    hex "0100 0000 0000 0100 0100 0100" ∷
+    hex "0100 0000 0200 0100 0100 0200  0000 8000  feffffff 03000000" ∷
+    hex "0100 0000 0300 0100 0100 0100  0000 4000 8000  05000000 04000000 04000000" ∷
+    hex "0100 0000 0200 0100 0100 0100  4000 8000  04000000 03000000" ∷
+    []
+
+pub bytes-are : map (λ r. r .sheet) table ≡ sheets
+unfolding Holds
+bytes-are = refl
+
+-- They are what is written of their sizes and tables: a table has no order, and a figure of 0 has no entry.
 pub encoded :
     written (sized 2 1 1 8 4) (entered entries-C1) ∷
-    written (sized 2 1 1 8 1) (entered (194 ∶ neg 12 ∷ 64 ∶ pos 0 ∷ entries-C1)) ∷
+    written (sized 2 1 1 8 1) (entered (64 ∶ pos 0 ∷ entries-C1)) ∷
     written (sized 1 1 1 1 2) (entered entries-C3) ∷
-    written (sized 1 1 1 1 1) (entered entries-C3) ∷
+    written (sized 1 1 1 1 1) (entered (193 ∶ neg 5 ∷ 192 ∶ neg 1 ∷ 128 ∶ pos 1 ∷ 0 ∶ pos 1 ∷ [])) ∷
     written (sized 1 1 1024 1 1) (entered (193 ∶ neg 1048577 ∷ [])) ∷
     written (sized 1 1 1024 1 1) (entered (193 ∶ neg 1048576 ∷ [])) ∷
     written (sized 1 0 1 1 1) (entered []) ∷
     written (sized 1 0 1 1 2) (entered (128 ∶ pos 3 ∷ 0 ∶ neg 2 ∷ [])) ∷
     written (sized 1 0 1 1 1) (entered (128 ∶ pos 4 ∷ 64 ∶ pos 4 ∷ 0 ∶ pos 5 ∷ [])) ∷
-    written (sized 1 0 1 1 1) (entered (64 ∶ pos 4 ∷ 128 ∶ pos 3 ∷ [])) ∷ []
-    ≡ map (λ r. r .sheet) table
+    written (sized 1 0 1 1 1) (entered (64 ∶ pos 4 ∷ 128 ∶ pos 3 ∷ [])) ∷
+    []
+    ≡ sheets
 unfolding Holds
 encoded = refl
 

@@ -7,6 +7,7 @@ use lib.IntN.{ℤ}
 use lib.Dec.{leb}
 use Rattle.rules.specs.Notation.{tabulate}
 use Rattle.rules.specs.Bytes.{unsignedAt, signedAt, unsignedBytes, signedBytes, laid}
+use Rattle.rules.specs.Ranges.{largest}
 use Rattle.rules.specs.Run.{Plan}
 
 -- figures of w bytes each, signed
@@ -53,7 +54,7 @@ recordLength n m = totalsAt n m + 8 * m
 
 -- the length of the longest: as many materials and limits as a sheet may have
 abbrev pub longestRecord : ℕ
-longestRecord = recordLength 32 16
+longestRecord = recordLength (largest .materials) (largest .limits)
 
 -- the plan whose figures stand where a record has them
 unfoldable pub recorded : List ℕ → Plan
@@ -76,4 +77,4 @@ unfoldable pub holdsRecord : List ℕ → Bool
 holdsRecord r =
     let n = unsignedAt 2 r 0 in
     let m = unsignedAt 2 r limitsAt in
-    leb n 32 && leb m 16 && leb (recordLength n m) (length r)
+    leb n (largest .materials) && leb m (largest .limits) && leb (recordLength n m) (length r)

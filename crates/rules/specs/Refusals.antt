@@ -4,6 +4,7 @@ use mathlib.Core.Bool.{Bool, true, false, not, _&&_, _||_}
 use mathlib.Core.List.{List}
 use mathlib.Core.Option.{Option, none, some}
 use lib.ListN.{length}
+use lib.IntN.{ℤ}
 use lib.Signed.{ltZ}
 use lib.Dec.{ltb, leb, eqb}
 use Rattle.rules.specs.declared.Cause.{Cause}
@@ -12,7 +13,7 @@ use Rattle.rules.specs.declared.Refusal.{Refusal}
 use Rattle.rules.specs.declared.Verdict.{Verdict}
 use Rattle.rules.specs.declared.Shape.{Shape}
 use Rattle.rules.specs.Notation.{isZero}
-use Rattle.rules.specs.Sheet.{Sheet, headerLength, sheetLength, sheetOf, keyOf, rowOf, columnOf, tableOf}
+use Rattle.rules.specs.Sheet.{Sheet, headerLength, sheetLength, sheetOf, Table, keyOf, rowOf, columnOf, tableOf}
 use Rattle.rules.specs.Ranges.{rangeOf, kindAt, inRange, dimensionsInRange, parametersInRange}
 
 -- A refusal as document 01 gives it: its number and its place.
@@ -64,6 +65,14 @@ noFigureAt shape row column =
     let n = shape .materials in
     ltb (shape .limits + 2) row || ltb n column || (eqb column n && leb row 2)
 
+-- is a value bad under its key: 0, or outside its range?
+unfoldable pub valueBad : Shape → ℕ → ℤ → Bool
+valueBad shape key value = isZero value || not (inRange (rangeOf (kindAt shape (rowOf key) (columnOf key))) value)
+
+-- is the least amount of material j above its most?
+unfoldable pub crossed : Table → ℕ → Bool
+crossed T j = ltZ (T (keyOf 2 j)) (T (keyOf 1 j))
+
 -- Of a sheet that has been read:
 module _ (S : Sheet) where
   -- is the key of entry i not above the one before?
@@ -77,13 +86,26 @@ module _ (S : Sheet) where
 
   -- refusal 6: value 0 or outside its range
   unfoldable pub badValue : ℕ → Bool
-  badValue i =
-      let kind = kindAt (S .sizes .shape) (rowOf (S .key i)) (columnOf (S .key i)) in
-      isZero (S .value i) || not (inRange (rangeOf kind) (S .value i))
+  badValue i = valueBad (S .sizes .shape) (S .key i) (S .value i)
 
-  -- refusal 7: least above most
-  unfoldable pub crossed : ℕ → Bool
-  crossed j = ltZ (tableOf S (keyOf 2 j)) (tableOf S (keyOf 1 j))
+  -- refusals 2 to 4, of a sheet that has so many bytes
+  unfoldable pub sizesRefusal : ℕ → Option Numbered
+  sizesRefusal bytes =
+      refuse 2 0 (not (dimensionsInRange (S .sizes .shape) (S .entries)))
+      otherwise refuse 3 0 (not (eqb bytes (sheetLength (S .entries))))
+      otherwise refuse 4 0 (not (parametersInRange (S .sizes)))
+
+  -- refusal 5, at the first such entry
+  unfoldable pub keyRefusal : Option Numbered
+  keyRefusal = firstBelow (S .entries) (λ i. refuse 5 i (badKey i))
+
+  -- refusal 6, at the first such entry
+  unfoldable pub valueRefusal : Option Numbered
+  valueRefusal = firstBelow (S .entries) (λ i. refuse 6 i (badValue i))
+
+  -- refusal 7, at the first such material
+  unfoldable pub boundRefusal : Option Numbered
+  boundRefusal = firstBelow (S .sizes .shape .materials) (λ j. refuse 7 j (crossed (tableOf S) j))
 
 -- Refusals 1 to 7 of a sheet's bytes, in rising order, each over the whole sheet. A sheet follows the layout exactly
 -- when there is none.
@@ -91,9 +113,7 @@ unfoldable pub layoutRefusal : List ℕ → Option Numbered
 layoutRefusal s =
     let S = sheetOf s in
     refuse 1 0 (ltb (length s) headerLength)
-    otherwise refuse 2 0 (not (dimensionsInRange (S .sizes .shape) (S .entries)))
-    otherwise refuse 3 0 (not (eqb (length s) (sheetLength (S .entries))))
-    otherwise refuse 4 0 (not (parametersInRange (S .sizes)))
-    otherwise firstBelow (S .entries) (λ i. refuse 5 i (badKey S i))
-    otherwise firstBelow (S .entries) (λ i. refuse 6 i (badValue S i))
-    otherwise firstBelow (S .sizes .shape .materials) (λ j. refuse 7 j (crossed S j))
+    otherwise sizesRefusal S (length s)
+    otherwise keyRefusal S
+    otherwise valueRefusal S
+    otherwise boundRefusal S

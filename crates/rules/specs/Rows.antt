@@ -1,4 +1,4 @@
--- How a table of sheets is written down and held against the definitions. Only Marked and Examples use what is here.
+-- How a table of sheets is written down and held against the definitions. Only Marked, Examples and Points use it.
 use Prim.Native.Nat.{ℕ, _+_, _-_, _*_}
 use Prim.Native.String.{String}
 use mathlib.Core.Path.{_≡_}
@@ -18,8 +18,8 @@ use Rattle.rules.specs.Ranges.{ranges, indexOf, rangeOf, kindAt, inRange
 use Rattle.rules.specs.Step.{anyBelow, reducedCost, amount, residual, dualValue, lookAt, greatestCost, cheapestCost, infeasible, moved, next, diverged}
 use Rattle.rules.specs.Run.{startingMultiplier, start, stateAfter, lookAfter, lowAfter, gapOf, planAfter}
 use Rattle.rules.specs.Record.{recordOf, recordLength, recorded, holdsRecord}
-use Rattle.rules.specs.Refusals.{numberOf, numbered, refuse, _otherwise_, firstBelow, noFigureAt, notAbove, badKey, badValue, crossed, layoutRefusal}
-use Rattle.rules.specs.Answers.{outcome, refusalAt, stepRefusal, unlessRefused, planOf, planRefusal, answerTo, answer, bufferOf, bufferAfter}
+use Rattle.rules.specs.Refusals.{numberOf, numbered, refuse, _otherwise_, firstBelow, noFigureAt, notAbove, badKey, valueBad, badValue, crossed, sizesRefusal, keyRefusal, valueRefusal, boundRefusal, layoutRefusal}
+use Rattle.rules.specs.Answers.{outcome, refusalAt, stepRefusal, planRefusal, outcomeOf, planOf, refusal, answerTo, answer, bufferOf, bufferAfter}
 use Rattle.rules.specs.Listing.{text, digits, decimal, spaced, line, lines, planText, refusalText, textOf, listing, textFrom}
 
 -- ---- how a row is written
@@ -83,7 +83,7 @@ lent room = replicate room 170
 
 -- What the definitions give is what the row says: the answer, the buffer afterwards, the listing, and the listing out of answer and buffer. Whoever unfolds it computes with them all.
 unfoldable pub Holds : Row → Type 0
-unfolding headerLength isZero laid laidOut picked keysOf written entered nibble unspaced pairs outcome numbered numberOf maxℤ sumTo tabulate costOf loadOf unsignedAt signedOf signedAt unsignedBytes signedBytes valueUnder problemFrom ranges indexOf rangeOf kindAt inRange between dimensionsInRange parametersInRange anyBelow reducedCost amount residual dualValue lookAt greatestCost cheapestCost infeasible moved next diverged startingMultiplier start stateAfter lookAfter lowAfter gapOf planAfter recordOf recordLength recorded holdsRecord refuse _otherwise_ firstBelow noFigureAt notAbove badKey badValue crossed layoutRefusal refusalAt stepRefusal unlessRefused planOf planRefusal answerTo answer bufferOf bufferAfter text digits decimal spaced line lines planText refusalText textOf listing textFrom
+unfolding headerLength isZero laid laidOut picked keysOf written entered nibble unspaced pairs outcome numbered numberOf maxℤ sumTo tabulate costOf loadOf unsignedAt signedOf signedAt unsignedBytes signedBytes valueUnder problemFrom ranges indexOf rangeOf kindAt inRange between dimensionsInRange parametersInRange anyBelow reducedCost amount residual dualValue lookAt greatestCost cheapestCost infeasible moved next diverged startingMultiplier start stateAfter lookAfter lowAfter gapOf planAfter recordOf recordLength recorded holdsRecord refuse _otherwise_ firstBelow noFigureAt notAbove badKey valueBad badValue crossed sizesRefusal keyRefusal valueRefusal boundRefusal layoutRefusal refusalAt stepRefusal planRefusal outcomeOf planOf refusal answerTo answer bufferOf bufferAfter text digits decimal spaced line lines planText refusalText textOf listing textFrom
 Holds r =
     (answer (r .sheet) (r .room) ≡ outcome (r .answer)) ×
     (bufferAfter (r .sheet) (lent (r .room)) ≡ r .bytes ++ drop (length (r .bytes)) (lent (r .room))) ×

@@ -1,33 +1,23 @@
 -- The pass over the bounds: refusal 7.
 use mathlib.Core.Path.{_≡_}
-use mathlib.Core.Bool.{Bool}
 use mathlib.Core.List.{List}
 use mathlib.Core.Option.{Option}
 use Prim.Native.Nat.{ℕ, _≤_}
 use native.Mathlib.Omega.{arith}
 use lib.IntN.{ℤ}
 use lib.Signed.{ltZ}
-use Rattle.rules.specs.Notation.{at}
 use Rattle.rules.specs.Sheet.{Sheet, tableOf}
-use Rattle.rules.specs.Refusals.{Numbered, refuse, firstBelow, crossed}
+use Rattle.rules.specs.Refusals.{Numbered, refuse, firstBelow, crossed, boundRefusal}
 use Rattle.proof_laws.specs.FirstPlace.{first-cong}
-use Rattle.sheet_table.specs.Tabled.{InTable, placeAt, tabled, at-tabled}
+use Rattle.sheet_table.specs.Tabled.{InTable, tableIn, tabled, same-figure}
 
 -- the table has a column for each material
 pub record FewMaterials (n : ℕ) : Type 0 where
   pub narrow : n ≤ 32
 
--- is the least amount of material j above its most?
-abbrev pub crossedAt : List ℤ → ℕ → Bool
-crossedAt table j = ltZ (at table (placeAt 2 j)) (at table (placeAt 1 j))
-
 -- refusal 7, of a table in an array
 unfoldable pub crossedRefusal : ℕ → List ℤ → Option Numbered
-crossedRefusal n table = firstBelow n (λ j. refuse 7 j (crossedAt table j))
-
--- refusal 7 of a sheet
-unfoldable pub boundRefusal : Sheet → Option Numbered
-boundRefusal S = firstBelow (S .sizes .shape .materials) (λ j. refuse 7 j (crossed S j))
+crossedRefusal n table = firstBelow n (λ j. refuse 7 j (crossed (tableIn table) j))
 
 -- the sheet's table in an array says the same
 pub crossed-is : (S : Sheet) → FewMaterials (S .sizes .shape .materials)
@@ -38,6 +28,6 @@ crossed-is S few =
     let narrow = few .narrow in
     let in-table : (row : ℕ) → row ≤ 2 → InTable row j =
     λ row r. record { row-in = omega arith; column-in = omega arith } in
-    let most = at-tabled (in-table 2 (omega arith)) (tableOf S) in
-    let least = at-tabled (in-table 1 (omega arith)) (tableOf S) in
+    let most = same-figure (in-table 2 (omega arith)) (tableOf S) in
+    let least = same-figure (in-table 1 (omega arith)) (tableOf S) in
     λ i. refuse 7 j (ltZ (most i) (least i)))

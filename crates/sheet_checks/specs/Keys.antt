@@ -2,18 +2,14 @@
 use mathlib.Core.Path.{_≡_}
 use mathlib.Core.Bool.{false}
 use mathlib.Core.List.{List}
-use mathlib.Core.Option.{Option, none}
+use mathlib.Core.Option.{none}
 use Prim.Native.Nat.{ℕ, _<_}
-use Rattle.rules.specs.Sheet.{Sheet, sheetOf}
-use Rattle.rules.specs.Refusals.{Numbered, refuse, firstBelow, badKey}
+use Rattle.rules.specs.Sheet.{sheetOf}
+use Rattle.rules.specs.Refusals.{refuse, badKey, keyRefusal}
 use Rattle.proof_laws.specs.Entries.{noFigureFor, good-key}
 use Rattle.proof_laws.specs.NotRefused.{refuse-false, first-none}
 use Rattle.sheet_header.specs.declared.Header.{Header}
 use Rattle.sheet_header.specs.Header.{Headed}
-
--- refusal 5, over the whole sheet
-unfoldable pub keyRefusal : Sheet → Option Numbered
-keyRefusal S = firstBelow (S .entries) (λ i. refuse 5 i (badKey S i))
 
 -- a sheet that passed refusals 1 to 5, and its header
 pub record Keyed (s : List ℕ) (h : Header) : Type 0 where

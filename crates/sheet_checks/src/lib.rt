@@ -1,9 +1,8 @@
 // The checks of a sheet that store nothing: its keys, and its bounds once they are stored. Refusals 5 and 7.
 ghost use mathlib.Core.Path.{_≡_};
 ghost use Rattle.rules.specs.Sheet.{sheetOf};
-ghost use Rattle.rules.specs.Refusals.{refusalOf};
+ghost use Rattle.rules.specs.Refusals.{refusalOf, keyRefusal};
 ghost use Rattle.sheet_header.specs.Header.{Headed};
-ghost use Rattle.sheet_checks.specs.Keys.{keyRefusal};
 ghost use Rattle.sheet_checks.specs.Bounds.{FewMaterials, crossedRefusal};
 use bytes_read::size_at;
 use rules::Cause;

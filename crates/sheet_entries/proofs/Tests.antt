@@ -9,7 +9,7 @@ use Rattle.rules.specs.declared.Shape.{Shape}
 use Rattle.rules.specs.Notation.{isZero}
 use Rattle.rules.specs.Sheet.{rowOf, columnOf}
 use Rattle.rules.specs.Ranges.{rangeOf, kindAt, inRange}
-use Rattle.rules.specs.Refusals.{noFigureAt}
+use Rattle.rules.specs.Refusals.{noFigureAt, valueBad}
 use Rattle.proof_laws.specs.Read.{gives, refused, unless}
 use Rattle.sheet_entries.specs.KeyRead.{keyRead}
 use Rattle.sheet_entries.specs.EntryRead.{entryRead}
@@ -46,16 +46,16 @@ module _ (shape : Shape) (key : ℕ) (value : ℤ) where
 
   module _ (h : noFigureAt shape (rowOf key) (columnOf key) ≡ false) where
     pub zero-value : value ≡ pos 0 → entryRead shape key value ≡ refused 6
-    unfolding entryRead unless isZero
+    unfolding entryRead unless valueBad isZero
     zero-value e = rw (h, e)
 
     module _ (other : value ≡ pos 0 → ⊥) where
       pub out-of-range : inRange (rangeOf (kindAt shape (rowOf key) (columnOf key))) value ≡ false
           → entryRead shape key value ≡ refused 6
-      unfolding entryRead unless
+      unfolding entryRead unless valueBad
       out-of-range k = rw (h, nonzero value other, k)
 
       pub in-range : inRange (rangeOf (kindAt shape (rowOf key) (columnOf key))) value ≡ true
           → entryRead shape key value ≡ gives value
-      unfolding entryRead unless
+      unfolding entryRead unless valueBad
       in-range k = rw (h, nonzero value other, k)

@@ -1,12 +1,9 @@
 -- Reading an entry.
-use mathlib.Core.Bool.{Bool, not, _||_}
 use Prim.Native.Nat.{ℕ}
 use lib.IntN.{ℤ}
 use Rattle.rules.specs.declared.Shape.{Shape}
-use Rattle.rules.specs.Notation.{isZero}
 use Rattle.rules.specs.Sheet.{rowOf, columnOf}
-use Rattle.rules.specs.Ranges.{rangeOf, kindAt, inRange}
-use Rattle.rules.specs.Refusals.{numberOf, noFigureAt}
+use Rattle.rules.specs.Refusals.{numberOf, noFigureAt, valueBad}
 use Rattle.proof_laws.specs.Read.{Read, gives, refused, unless}
 use Rattle.sheet_entries.specs.declared.EntryValue.{EntryValue}
 use Rattle.sheet_entries.specs.declared.EntryValue.the-variants.{Good, Bad}
@@ -15,10 +12,6 @@ use Rattle.sheet_entries.specs.declared.EntryValue.the-variants.{Good, B
 unfoldable pub entryAnswered : EntryValue → Read ℤ
 entryAnswered (Good value) = gives value
 entryAnswered (Bad cause) = refused (numberOf cause)
-
--- is a value bad: 0, or outside the range at its key?
-abbrev pub valueBad : Shape → ℕ → ℤ → Bool
-valueBad shape key value = isZero value || not (inRange (rangeOf (kindAt shape (rowOf key) (columnOf key))) value)
 
 unfoldable pub entryRead : Shape → ℕ → ℤ → Read ℤ
 entryRead shape key value =

@@ -13,8 +13,8 @@ use Rattle.sheet_figures.specs.declared.Figures.{Figures}
 use Rattle.sheet_figures.specs.Put.{put, putRows, put-cong, put-here, rows-cong, rows-here}
 
 -- n figures in an array of `room` places, and 0 at the others
-unfoldable pub row : ℕ → ℕ → (ℕ → ℤ) → List ℤ
-row room n f = put (replicate room (pos 0)) 0 n f
+unfoldable pub array : ℕ → ℕ → (ℕ → ℤ) → List ℤ
+array room n f = put (replicate room (pos 0)) 0 n f
 
 -- the figures of a problem in arrays of 32 and 16 places
 unfoldable pub figuresOf : Problem → ℕ → Figures
@@ -24,10 +24,10 @@ figuresOf P k = record {
   numerator = P .numerator;
   scale = P .scale;
   steps = k;
-  cost = row 32 (P .materials) (P .cost);
-  least = row 32 (P .materials) (P .least);
-  most = row 32 (P .materials) (P .most);
-  rhs = row 16 (P .limits) (P .rhs);
+  cost = array 32 (P .materials) (P .cost);
+  least = array 32 (P .materials) (P .least);
+  most = array 32 (P .materials) (P .most);
+  rhs = array 16 (P .limits) (P .rhs);
 }
 
 -- the coefficients of a problem in a lent array: a row of 32 places for each limit; the other places stay as lent
@@ -59,9 +59,9 @@ noFigures = figuresOf (problemIn 0 0 0 0 [] [] [] [] []) 0
 
 -- ---- what stands at each place
 -- figure j stands at place j
-row-here : (room n : ℕ) (f : ℕ → ℤ) → n ≤ room → (j : ℕ) → j < n → at (row room n f) j ≡ f j
-unfolding row
-row-here room n f fits j l =
+array-here : (room n : ℕ) (f : ℕ → ℤ) → n ≤ room → (j : ℕ) → j < n → at (array room n f) j ≡ f j
+unfolding array
+array-here room n f fits j l =
     rw zero-add at (put-here (replicate room (pos 0)) 0 n f (rw (length-replicate, zero-add) fits) j l)
 
 -- the arrays of a problem hold its figures
@@ -73,18 +73,18 @@ in-arrays P k lent narrow few room = record {
   limits = refl;
   numerator = refl;
   scale = refl;
-  cost = row-here 32 (P .materials) (P .cost) narrow;
-  least = row-here 32 (P .materials) (P .least) narrow;
-  most = row-here 32 (P .materials) (P .most) narrow;
+  cost = array-here 32 (P .materials) (P .cost) narrow;
+  least = array-here 32 (P .materials) (P .least) narrow;
+  most = array-here 32 (P .materials) (P .most) narrow;
   coefficient = rows-here lent (P .limits) (P .materials) (P .coefficient) narrow (omega arith);
-  rhs = row-here 16 (P .limits) (P .rhs) few;
+  rhs = array-here 16 (P .limits) (P .rhs) few;
 }
 
 -- ---- problems that agree have the same arrays
 module _ {P Q : Problem} (same : Agree P Q) where
-  rows-same : (room : ℕ) {n m : ℕ} (f g : ℕ → ℤ) → n ≡ m → ((j : ℕ) → j < m → f j ≡ g j) → row room n f ≡ row room m g
-  unfolding row
-  rows-same room {n} {m} f g e h =
+  array-same : (room : ℕ) {n m : ℕ} (f g : ℕ → ℤ) → n ≡ m → ((j : ℕ) → j < m → f j ≡ g j) → array room n f ≡ array room m g
+  unfolding array
+  array-same room {n} {m} f g e h =
       (λ i. put (replicate room (pos 0)) 0 (e i) f) ∙ put-cong (replicate room (pos 0)) 0 m f g h
 
   pub figures-same : (k : ℕ) → figuresOf P k ≡ figuresOf Q k
@@ -95,10 +95,10 @@ module _ {P Q : Problem} (same : Agree P Q) where
     numerator = same .numerator i;
     scale = same .scale i;
     steps = k;
-    cost = rows-same 32 (P .cost) (Q .cost) (same .materials) (same .cost) i;
-    least = rows-same 32 (P .least) (Q .least) (same .materials) (same .least) i;
-    most = rows-same 32 (P .most) (Q .most) (same .materials) (same .most) i;
-    rhs = rows-same 16 (P .rhs) (Q .rhs) (same .limits) (same .rhs) i;
+    cost = array-same 32 (P .cost) (Q .cost) (same .materials) (same .cost) i;
+    least = array-same 32 (P .least) (Q .least) (same .materials) (same .least) i;
+    most = array-same 32 (P .most) (Q .most) (same .materials) (same .most) i;
+    rhs = array-same 16 (P .rhs) (Q .rhs) (same .limits) (same .rhs) i;
   }
 
   pub coefficients-same : (lent : List ℤ) → coefficientsOver lent P ≡ coefficientsOver lent Q

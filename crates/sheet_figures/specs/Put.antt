@@ -21,7 +21,7 @@ length-put xs from zero f = refl
 length-put xs from (suc n) f = length-set (put xs from n f) _ _ ∙ length-put xs from n f
 
 -- the places before and after stay
-pub put-other : (xs : List ℤ) (from n : ℕ) (f : ℕ → ℤ) (x : ℕ) → ((j : ℕ) → j < n → x ≡ from + j → ⊥)
+put-other : (xs : List ℤ) (from n : ℕ) (f : ℕ → ℤ) (x : ℕ) → ((j : ℕ) → j < n → x ≡ from + j → ⊥)
     → at (put xs from n f) x ≡ at xs x
 unfolding put
 put-other xs from zero f x h = refl
@@ -54,7 +54,7 @@ unfoldable pub putRows : List ℤ → ℕ → ℕ → (ℕ → ℕ → ℤ) → 
 putRows xs zero n f = xs
 putRows xs (suc m) n f = put (putRows xs m n f) (32 * m) n (f m)
 
-pub length-rows : (xs : List ℤ) (m n : ℕ) (f : ℕ → ℕ → ℤ) → length (putRows xs m n f) ≡ length xs
+length-rows : (xs : List ℤ) (m n : ℕ) (f : ℕ → ℕ → ℤ) → length (putRows xs m n f) ≡ length xs
 unfolding putRows
 length-rows xs zero n f = refl
 length-rows xs (suc m) n f = length-put (putRows xs m n f) _ n (f m) ∙ length-rows xs m n f

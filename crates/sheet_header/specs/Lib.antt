@@ -1,3 +1,3 @@
 -- The header of a sheet.
---   Header   the six sizes, refusals 2 to 4, and what a sheet that passed them has
+--   Header   what is read of a header, and what a sheet that passed refusals 2 to 4 has
 pub mod Header

@@ -1,7 +1,9 @@
 // The header of a sheet: its sizes, refusal 1, and refusals 2 to 4.
 ghost use mathlib.Core.Path.{_≡_};
-ghost use Rattle.rules.specs.Refusals.{refusalOf};
-ghost use Rattle.sheet_header.specs.Header.{HasHeader, headerAnswered, headerRead, headerRefusal};
+ghost use lib.ListN.{length};
+ghost use Rattle.rules.specs.Sheet.{sheetOf};
+ghost use Rattle.rules.specs.Refusals.{refusalOf, sizesRefusal};
+ghost use Rattle.sheet_header.specs.Header.{HasHeader, headerAnswered, headerRead};
 use bytes_read::size_at;
 use rules::Cause;
 use rules::Refusal;
@@ -62,7 +64,7 @@ pub fn read_header(s: &[u8]) -> HeaderRead
 // Refusals 2 to 4.
 pub fn check_header(s: &[u8], header: Header) -> Verdict
     requires { ⌜ HasHeader (now s) header ⌝ }
-    ensures { λ r. ⌜ refusalOf r ≡ headerRefusal (now (s .entry)) ⌝ }
+    ensures { λ r. ⌜ refusalOf r ≡ sizesRefusal (sheetOf (now (s .entry))) (length (now (s .entry))) ⌝ }
 {
     let sizes = header.sizes;
     let shape = sizes.shape;

@@ -5,11 +5,9 @@ use mathlib.Core.Option.{Option, none, some}
 use lib.IntN.{ℤ}
 use Rattle.rules.specs.declared.Verdict.{Verdict}
 use Rattle.rules.specs.Sheet.{Sheet, problem}
-use Rattle.rules.specs.Refusals.{Numbered, refusalOf, _otherwise_}
+use Rattle.rules.specs.Refusals.{Numbered, refusalOf, _otherwise_, valueRefusal, boundRefusal}
 use Rattle.sheet_figures.specs.declared.Figures.{Figures}
 use Rattle.sheet_figures.specs.Figures.{figuresOf, coefficientsOver, noFigures}
-use Rattle.sheet_checks.specs.Bounds.{boundRefusal}
-use Rattle.sheet_store.specs.Values.{valueRefusal}
 use Rattle.sheet_read.specs.declared.Reading.{Reading}
 
 -- the figures of a sheet; where it is refused, every one is 0

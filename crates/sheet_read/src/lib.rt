@@ -84,9 +84,9 @@ pub fn read_sheet(s: &[u8], coefficient: &mut [i16; 512]) -> Reading
     let HeaderRead::Whole(header) = read else {
         return without_figures(refused(0, Cause::Short));
     };
-    let sizes = check_header(s, header);
-    let Verdict::Passed = sizes else {
-        return without_figures(sizes);
+    let checked = check_header(s, header);
+    let Verdict::Passed = checked else {
+        return without_figures(checked);
     };
     let keys = check_keys(s, header);
     let Verdict::Passed = keys else {

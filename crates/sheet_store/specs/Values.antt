@@ -1,7 +1,6 @@
 -- The pass over the values: refusal 6, and the table while the entries are stored.
 use mathlib.Core.Path.{_≡_, refl, sym, _∙_}
 use mathlib.Core.List.{List}
-use mathlib.Core.Option.{Option}
 use Prim.Native.Nat.{ℕ, _+_}
 use native.Mathlib.Numerals.{add-one}
 use borrow.Author.Tests.{eq-eqb, ne-eqb}
@@ -10,15 +9,10 @@ use lib.ListN.{set}
 use Rattle.rules.specs.declared.Verdict.{Verdict}
 use Rattle.rules.specs.declared.Verdict.the-variants.{Passed, Refused}
 use Rattle.rules.specs.Sheet.{Sheet, rowOf, columnOf, valueUnder}
-use Rattle.rules.specs.Refusals.{Numbered, refuse, firstBelow, badValue}
 use Rattle.proof_laws.specs.Entries.{parts-key}
 use Rattle.sheet_header.specs.declared.Header.{Header}
 use Rattle.sheet_table.specs.Tabled.{InTable, placeAt, tabled, tabled-set}
 use Rattle.sheet_checks.specs.Keys.{Keyed}
-
--- refusal 6, over the whole sheet
-unfoldable pub valueRefusal : Sheet → Option Numbered
-valueRefusal S = firstBelow (S .entries) (λ i. refuse 6 i (badValue S i))
 
 -- the keys are good, and nothing is stored yet
 pub record ReadyToStore (s : List ℕ) (h : Header) (table : List ℤ) : Type 0 where

@@ -1,9 +1,9 @@
 // The pass that stores the entries of a sheet whose keys are good. Refusal 6.
 ghost use mathlib.Core.Path.{_≡_};
 ghost use Rattle.rules.specs.Sheet.{sheetOf, valueUnder};
-ghost use Rattle.rules.specs.Refusals.{refusalOf};
+ghost use Rattle.rules.specs.Refusals.{refusalOf, valueRefusal};
 ghost use Rattle.sheet_table.specs.Tabled.{tabled};
-ghost use Rattle.sheet_store.specs.Values.{ReadyToStore, storedBy, valueRefusal};
+ghost use Rattle.sheet_store.specs.Values.{ReadyToStore, storedBy};
 use bytes_read::signed_32;
 use bytes_read::size_at;
 use rules::Cause;
@@ -15,6 +15,7 @@ use sheet_header::refused;
 use sheet_table::place_at;
 
 // Refusal 6: the first entry whose value is bad. The values of the entries before it are stored, each under its key.
+// No key is bad here, so that it is the value where an entry is.
 pub fn store_entries(s: &[u8], header: Header, table: &mut [i32; 646]) -> Verdict
     requires { ⌜ ReadyToStore (now s) header (now table) ⌝ }
     ensures { λ r. ⌜ refusalOf r ≡ valueRefusal (sheetOf (now (s .entry))) ⌝ }

@@ -1,10 +1,12 @@
 -- The table of figures by key in an array: 19 rows of 34 columns. Every key that names a figure has a place in it:
 -- 3 rows of materials and 16 of limits; 32 columns of materials, that of b, and one that is free.
 use mathlib.Core.Path.{_≡_, refl, ap, _∙_}
-use mathlib.Core.Bool.{false}
+use mathlib.Core.Bool.{false, cond}
 use mathlib.Core.List.{List}
 use Prim.Native.Nat.{ℕ, _+_, _*_, _/_, _%_, _<_, _≤_}
 use native.Mathlib.Omega.{arith}
+use borrow.Author.Tests.{lt-ltb}
+use lib.Dec.{ltb}
 use lib.IntN.{ℤ, pos}
 use lib.ListN.{set, replicate}
 use Rattle.rules.specs.declared.Shape.{Shape}
@@ -38,13 +40,14 @@ placeAt row column = 34 * row + column
 abbrev keyIn : ℕ → ℕ
 keyIn x = keyOf (x / 34) (x % 34)
 
--- the table that stands in an array
-abbrev pub tableIn : List ℤ → Table
-tableIn t key = at t (placeAt (rowOf key) (columnOf key))
+-- the table that stands in an array: columns from 34 on have no figure
+unfoldable pub tableIn : List ℤ → Table
+tableIn t key = cond (ltb (columnOf key) 34) (at t (placeAt (rowOf key) (columnOf key))) (pos 0)
 
-pub table-at : (t : List ℤ) (row : ℕ) {column : ℕ} → column < 64
+pub table-at : (t : List ℤ) (row : ℕ) {column : ℕ} → column < 34
     → tableIn t (keyOf row column) ≡ at t (placeAt row column)
-table-at t row {column} l = let (r, c) = key-parts row column l in rw (r, c)
+unfolding tableIn
+table-at t row {column} l = let (r, c) = key-parts row column (omega arith) in rw (r, c, lt-ltb column 34 l)
 
 -- the array of a table
 unfoldable pub tabled : Table → List ℤ
@@ -70,7 +73,7 @@ module _ {row column : ℕ} (h : InTable row column) where
 
   -- and that stands there for the array's own table
   pub same-figure : (T : Table) → tableIn (tabled T) (keyOf row column) ≡ T (keyOf row column)
-  same-figure T = table-at (tabled T) row (omega (arith, h .column-in)) ∙ at-tabled T
+  same-figure T = table-at (tabled T) row (h .column-in) ∙ at-tabled T
 
   -- one figure stored, where those under other keys stay
   pub tabled-set : (T U : Table) {v : ℤ} → v ≡ U (keyOf row column)

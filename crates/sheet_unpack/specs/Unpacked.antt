@@ -13,7 +13,6 @@ pub record RowFits (table : List ℤ) (row n : ℕ) (to : List ℤ) (from : ℕ)
   pub row-in : row < 19
   pub narrow : n ≤ 32
   pub fits : (j : ℕ) → j < n → SFits w16 (tableIn table (keyOf row j))
-  pub near : from ≤ 512
   pub room : from + n ≤ length to
 
 -- so it is with the row of each limit

@@ -6,13 +6,14 @@ use lib.ListN.{length}
 use borrow.Author.Needs.{needs}
 use borrow.Author.Tests.{lt-ltb, le-ltb}
 use Rattle.rules.specs.Refusals.{numbered, numberOf, refuse}
+use Rattle.rules.specs.Answers.{planRefusal}
 use Rattle.proof_laws.specs.FirstPlace.{refuse-yes, refuse-no, given, handed-on}
 use Rattle.planner.proofs.Ending.{ends-refused, ends-same}
 use Rattle.planner.proofs.plan_figures.Statement.{statement}
 use Rattle.planner.proofs.plan_figures.Tie as tie
 
 returns : tie.Need-returns
-unfolding numbered numberOf
+unfolding numbered numberOf planRefusal
 returns c =
     let s = c .before .before .before in
     let wanted = c .before .record-length .ensures in
@@ -25,6 +26,7 @@ plan-run-requires c κs =
     record { accepted = read .before .before .pre; room = rw (read .record-length .ensures) at (c .before .if1 .left) }
 
 returns-2 : tie.Need-returns-2
+unfolding planRefusal
 returns-2 c =
     let ran = c .before .before in
     let else = ran .before .before in

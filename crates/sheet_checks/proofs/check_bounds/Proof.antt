@@ -3,7 +3,7 @@ use mathlib.Core.Path.{_≡_, sym, ap, _∙_}
 use mathlib.Core.Bool.{Bool, true, false}
 use mathlib.Core.List.{List}
 use mathlib.Core.Option.{none}
-use Prim.Native.Nat.{ℕ, _-_, _≤_}
+use Prim.Native.Nat.{ℕ, _-_, _<_, _≤_}
 use native.Mathlib.Omega.{arith}
 use lib.IntN.{ℤ}
 use lib.Signed.{ltZ}
@@ -12,14 +12,15 @@ use mir.Val.{SFits, toZ, ofZ}
 use mir.Facts.{toZ-ofZ}
 use borrow.Author.Needs.{needs}
 use Rattle.rules.specs.Notation.{at}
-use Rattle.rules.specs.Refusals.{numberOf, numbered, refusalOf}
+use Rattle.rules.specs.Refusals.{numberOf, numbered, refusalOf, crossed}
+use Rattle.sheet_table.specs.Tabled.{tableIn, table-at}
 use Rattle.proof_laws.specs.FirstPlace.{first-start, first-end, scan, scan-more, scan-found}
-use Rattle.sheet_checks.specs.Bounds.{crossedAt, crossedRefusal}
+use Rattle.sheet_checks.specs.Bounds.{crossedRefusal}
 use Rattle.sheet_checks.proofs.check_bounds.Statement.{statement}
 use Rattle.sheet_checks.proofs.check_bounds.Tie as tie
 
 abbrev Inv-loop : tie.InvT-loop
-Inv-loop n table j₀ j = (j ≤ n) × (scan 7 (crossedAt table) j ≡ none)
+Inv-loop n table j₀ j = (j ≤ n) × (scan 7 (crossed (tableIn table)) j ≡ none)
 
 abbrev μ-loop : tie.MeasureT-loop
 μ-loop n table j₀ j = n - j
@@ -60,31 +61,36 @@ module _ (c : tie.After-most Inv-loop μ-loop) where
   abbrev turn : tie.In-loop Inv-loop μ-loop
   turn = c .before .before .before .before
 
-  before : scan 7 (crossedAt (table turn)) (j turn) ≡ none
+  before : scan 7 (crossed (tableIn (table turn))) (j turn) ≡ none
   before = turn .before .loop .inv .1
+
+  in-table : j turn < 34
+  in-table = omega (arith, narrow turn)
 
   test-is : (b : Bool) → ltZ (toZ w32 (ofZ w32 (at (table turn) (c .before .place-at2 .result))))
       (toZ w32 (ofZ w32 (at (table turn) (c .before .before .before .place-at .result)))) ≡ b
-      → crossedAt (table turn) (j turn) ≡ b
+      → crossed (tableIn (table turn)) (j turn) ≡ b
+  unfolding crossed
   test-is b h =
       let most-fits : SFits w32 (at (table turn) (c .before .place-at2 .result)) = search needs in
       let least-fits : SFits w32 (at (table turn) (c .before .before .before .place-at .result)) = search needs in
-      rw (← c .before .place-at2 .ensures, ← c .before .before .before .place-at .ensures)
-      (simp (toZ-ofZ most-fits, toZ-ofZ least-fits) at h)
+      let most = ap (at (table turn)) (c .before .place-at2 .ensures) ∙ sym (table-at (table turn) 2 in-table) in
+      let least = ap (at (table turn)) (c .before .before .before .place-at .ensures) ∙ sym (table-at (table turn) 1 in-table) in
+      (λ i. ltZ (sym most i) (sym least i)) ∙ (simp (toZ-ofZ most-fits, toZ-ofZ least-fits) at h)
 
 returns : tie.Need-returns Inv-loop μ-loop
 unfolding refusalOf numbered numberOf crossedRefusal
 returns c =
     let taken = c .before in
     let a = taken .before in
-    let crossed = test-is a true (taken .if1 .taken) in
+    let above = test-is a true (taken .if1 .taken) in
     ap refusalOf (c .refused .ensures)
-    ∙ sym (scan-found 7 (crossedAt (table (turn a))) (n (turn a)) (omega arith) (before a) crossed)
+    ∙ sym (scan-found 7 (crossed (tableIn (table (turn a)))) (n (turn a)) (omega arith) (before a) above)
 
 loop-again : tie.Need-loop-again Inv-loop μ-loop
 loop-again c =
     let a = c .before in
-    (omega arith, scan-more 7 (crossedAt (table (turn a))) (before a) (test-is a false (c .if1 .left)))
+    (omega arith, scan-more 7 (crossed (tableIn (table (turn a)))) (before a) (test-is a false (c .if1 .left)))
 
 returns-2 : tie.Need-returns-2 Inv-loop μ-loop
 unfolding refusalOf crossedRefusal

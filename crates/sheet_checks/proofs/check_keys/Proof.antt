@@ -7,11 +7,10 @@ use native.Mathlib.Omega.{arith}
 use borrow.Author.Needs.{needs}
 use Rattle.rules.specs.Bytes.{unsignedAt}
 use Rattle.rules.specs.Sheet.{Sheet, sheetOf}
-use Rattle.rules.specs.Refusals.{numberOf, numbered, refusalOf, badKey}
+use Rattle.rules.specs.Refusals.{numberOf, numbered, refusalOf, badKey, keyRefusal}
 use Rattle.proof_laws.specs.FirstPlace.{first-start, first-end, scan, scan-more, scan-found}
 use Rattle.proof_laws.specs.Read.{gives, unless, gives-says, same-gives, refused-says}
 use Rattle.sheet_entries.specs.KeyRead.{keyAnswered, keyRead}
-use Rattle.sheet_checks.specs.Keys.{keyRefusal}
 use Rattle.sheet_header.specs.Header.{entries-is, keys-begin}
 use Rattle.sheet_checks.proofs.Floor.{floorOf, floor-next, key-test}
 use Rattle.sheet_checks.proofs.check_keys.Statement.{statement}
@@ -57,12 +56,12 @@ module _ (c : tie.After-read-key Inv-loop μ-loop) where
   key-read : c .before .size-at .result ≡ S here .key (i here)
   key-read =
       c .before .size-at .ensures .is
-      ∙ ap (unsignedAt 2 (start here .args .s .now)) (omega (arith, keys-begin (start here .pre)))
+      ∙ ap (unsignedAt 2 (start here .args .s .now)) (omega (arith, keys-begin (start here .pre .header)))
 
   read-is : keyAnswered (c .read-key .result) ≡ unless 5 (badKey (S here) (i here)) (gives (S here .key (i here)))
   unfolding keyRead
   read-is =
-      let h = start here .pre .is in
+      let h = start here .pre .header .is in
       c .read-key .ensures
       ∙ (λ j. keyRead (h j .sizes .shape) (turn here .floor-is j) (key-read j))
       ∙ (λ j. unless 5 (key-test (S here) (i here) j) (gives (S here .key (i here))))
@@ -75,7 +74,7 @@ returns c =
     let a = here read in
     let bad = refused-says 5 5 _ _ (sym (read-is read) ∙ ap keyAnswered (told .enum-told .given .1)) in
     ap refusalOf (c .refused .ensures)
-    ∙ sym (scan-found 5 (badKey (S a)) (S a .entries) (omega (arith, entries-is (start a .pre))) (turn a .keys) bad)
+    ∙ sym (scan-found 5 (badKey (S a)) (S a .entries) (omega (arith, entries-is (start a .pre .header))) (turn a .keys) bad)
 
 -- ---- the key is good
 module _ (c : tie.After-known-told Inv-loop μ-loop) where
@@ -114,7 +113,7 @@ unfolding refusalOf keyRefusal
 returns-2 c =
     let ended = c .before in
     let start = ended .before .before .before .before in
-    let all : ended .loop .i ≡ sheetOf (start .args .s .now) .entries = omega (arith, entries-is (start .pre)) in
+    let all : ended .loop .i ≡ sheetOf (start .args .s .now) .entries = omega (arith, entries-is (start .pre .header)) in
     sym (first-end _ all (ended .loop .inv .keys))
 
 pub check-keys-spec : {M : Type 1} → statement M

@@ -8,13 +8,12 @@ use borrow.Author.Needs.{needs}
 use borrow.Author.Tests.{eq-eqb, ne-eqb, not-false}
 use lib.Dec.{eqb}
 use lib.ListN.{length}
-use Rattle.rules.specs.Sheet.{Sheet, headerLength, sheetLength, sheetOf}
+use Rattle.rules.specs.Sheet.{Sheet, sheetLength, sheetOf}
 use Rattle.rules.specs.Ranges.{dimensionsInRange, parametersInRange}
-use Rattle.rules.specs.Refusals.{numberOf, numbered, refusalOf, refuse, _otherwise_}
+use Rattle.rules.specs.Refusals.{numberOf, numbered, refusalOf, refuse, _otherwise_, sizesRefusal}
 use Rattle.proof_laws.specs.Sizes.{SizesInRange, dimensions, short-header}
 use Rattle.proof_laws.specs.FirstPlace.{refuse-yes, refuse-no, given, handed-on}
-use Rattle.sheet_header.specs.declared.Header.{Header}
-use Rattle.sheet_header.specs.Header.{headerOf, headerRefusal}
+use Rattle.sheet_header.specs.Header.{headerOf, entries-is, keys-begin}
 use Rattle.sheet_header.proofs.check_header.Statement.{statement}
 use Rattle.sheet_header.proofs.check_header.Tie as tie
 
@@ -36,7 +35,7 @@ module _ (c : tie.After-dimensions-in-range) where
   tested = sym (c .dimensions-in-range .ensures ∙ (λ i. dimensionsInRange (is i .sizes .shape) (is i .entries)))
 
 returns : tie.Need-returns
-unfolding refusalOf numbered numberOf headerRefusal
+unfolding refusalOf numbered numberOf sizesRefusal
 returns c =
     let taken = c .before in
     ap refusalOf (c .refused .ensures)
@@ -50,23 +49,17 @@ module _ (c : tie.Else1) where
   in-range : SizesInRange (S first .sizes .shape) (S first .entries)
   in-range = dimensions _ _ (tested first ∙ not-false _ (c .if1 .left))
 
-  after-dimensions : headerRefusal (s first)
+  after-dimensions : sizesRefusal (S first) (length (s first))
       ≡ refuse 3 0 (not (eqb (length (s first)) (sheetLength (S first .entries))))
       otherwise refuse 4 0 (not (parametersInRange (S first .sizes)))
-  unfolding headerRefusal
+  unfolding sizesRefusal
   after-dimensions = handed-on _ (refuse-no 2 0 (ap not (tested first ∙ not-false _ (c .if1 .left))))
 
-  entries-is : start first .args .header .entries ≡ S first .entries
-  entries-is = ap (λ (h : Header). h .entries) (is first)
-
-  keys-at : start first .args .header .length ≡ headerLength
-  keys-at = ap (λ (h : Header). h .length) (is first)
-
 mul-if2 : tie.Need-mul-if2
-mul-if2 c = record { fits = omega (arith, entries-is c, in-range c .entries) }
+mul-if2 c = record { fits = omega (arith, entries-is (start (first c) .pre), in-range c .entries) }
 
 add-if2 : tie.Need-add-if2
-add-if2 c = record { fits = omega (arith, entries-is c, in-range c .entries, keys-at c, short-header) }
+add-if2 c = record { fits = omega (arith, entries-is (start (first c) .pre), in-range c .entries, keys-begin (start (first c) .pre), short-header) }
 
 returns-2 : tie.Need-returns-2
 unfolding refusalOf numbered numberOf
@@ -74,17 +67,17 @@ returns-2 c =
     let taken = c .before in
     let d = taken .before in
     let out = ap not (ne-eqb (length (s (first d))) (sheetLength (S (first d) .entries))
-    (λ q. taken .if2 .taken (omega (arith, entries-is d, keys-at d)))) in
+    (λ q. taken .if2 .taken (omega (arith, entries-is (start (first d) .pre), keys-begin (start (first d) .pre))))) in
     ap refusalOf (c .refused2 .ensures) ∙ sym (after-dimensions d ∙ given _ (refuse-yes 3 0 out))
 
 -- ---- and the length fits
 after-length : (c : tie.After-parameters-in-range) → let d = c .before .before in
-    headerRefusal (s (first d)) ≡ refuse 4 0 (not (c .parameters-in-range .result))
+    sizesRefusal (S (first d)) (length (s (first d))) ≡ refuse 4 0 (not (c .parameters-in-range .result))
 after-length c =
     let d = c .before .before in
     let f = first d in
     let long = c .before .if2 .left in
-    let fits = ap not (eq-eqb (length (s f)) (sheetLength (S f .entries)) (omega (arith, entries-is d, keys-at d))) in
+    let fits = ap not (eq-eqb (length (s f)) (sheetLength (S f .entries)) (omega (arith, entries-is (start (first d) .pre), keys-begin (start (first d) .pre)))) in
     after-dimensions d ∙ handed-on _ (refuse-no 3 0 fits)
     ∙ (λ i. refuse 4 0 (not (parametersInRange (sym (is f) i .sizes))))
     ∙ ap (λ b. refuse 4 0 (not b)) (sym (c .parameters-in-range .ensures))

@@ -11,7 +11,7 @@ use lib.ListN.{length}
 use Rattle.rules.specs.declared.Sizes.{Sizes}
 use Rattle.rules.specs.declared.Verdict.{Verdict}
 use Rattle.rules.specs.Sheet.{Sheet, headerLength, sheetOf, valueUnder, tableOf, problemFrom, problem}
-use Rattle.rules.specs.Refusals.{refusalOf, layoutRefusal}
+use Rattle.rules.specs.Refusals.{refusalOf, valueRefusal, boundRefusal, layoutRefusal}
 use Rattle.proof_laws.specs.Agreeing.{Agree}
 use Rattle.proof_laws.specs.Sizes.{SizesInRange}
 use Rattle.proof_laws.specs.FirstPlace.{given, handed-on}
@@ -19,8 +19,8 @@ use Rattle.proof_magnitudes.specs.Accepted.{Accepted, accepted, accepted-same}
 use Rattle.sheet_table.specs.Tabled.{tabled, tableIn, tabled-zero, table-agrees}
 use Rattle.sheet_figures.specs.Figures.{figuresOf, coefficientsOver, figures-same, coefficients-same}
 use Rattle.sheet_header.specs.Header.{Headed, headerOf, entries-is, keys-begin, sheet-in-range}
-use Rattle.sheet_checks.specs.Bounds.{crossedRefusal, boundRefusal, crossed-is}
-use Rattle.sheet_store.specs.Values.{storedBy, valueRefusal}
+use Rattle.sheet_checks.specs.Bounds.{crossedRefusal, crossed-is}
+use Rattle.sheet_store.specs.Values.{storedBy}
 use Rattle.sheet_read.specs.Reading.{figuresRefusal}
 use Rattle.sheet_read.proofs.Chain.{after-keys}
 use Rattle.sheet_read.proofs.Outcome.{turned-back, read-whole}
@@ -45,7 +45,7 @@ module _ (c : tie.After-store-entries) where
   headed = start .pre .headed
 
   abbrev is : start .args .header ≡ headerOf s
-  is = headed .is
+  is = headed .header .is
 
 returns : tie.Need-returns
 unfolding refusalOf figuresRefusal
@@ -69,7 +69,7 @@ module _ (c : tie.After-enum-told) where
   unfolding storedBy
   all =
       ap (λ (v : Verdict). storedBy v (start stored .args .header .entries)) (c .enum-told .given .1)
-      ∙ entries-is (headed stored)
+      ∙ entries-is (headed stored .header)
 
   -- the lent table afterwards
   abbrev table : List ℤ
@@ -126,7 +126,7 @@ module _ (c : tie.After-enum-told3) where
   followed : layoutRefusal (s at-store) ≡ none
   followed =
       let h = headed at-store in
-      let long : headerLength ≤ length (s at-store) = omega (arith, h .long, keys-begin h) in
+      let long : headerLength ≤ length (s at-store) = omega (arith, h .long, keys-begin (h .header)) in
       after-keys (s at-store) (le-ltb _ _ long) (h .passed) (start at-store .pre .keys) ∙ none-refused
 
   ranged : Accepted (problem (S at-store)) (z .steps)

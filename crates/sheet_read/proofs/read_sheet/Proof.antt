@@ -8,12 +8,11 @@ use lib.Dec.{ltb}
 use lib.ListN.{length}
 use borrow.Author.Needs.{needs}
 use Rattle.rules.specs.Sheet.{headerLength, sheetOf}
-use Rattle.rules.specs.Refusals.{numberOf, numbered, refusalOf}
+use Rattle.rules.specs.Refusals.{numberOf, numbered, refusalOf, sizesRefusal, keyRefusal}
 use Rattle.proof_laws.specs.Read.{gives, gives-says, same-gives, refused-says}
 use Rattle.proof_laws.specs.FirstPlace.{given}
 use Rattle.sheet_header.specs.declared.Header.{Header}
-use Rattle.sheet_header.specs.Header.{Headed, headerOf, headerAnswered, headerRead, headerRefusal, headed}
-use Rattle.sheet_checks.specs.Keys.{keyRefusal}
+use Rattle.sheet_header.specs.Header.{Headed, headerOf, headerAnswered, headerRead, headed}
 use Rattle.sheet_read.proofs.Chain.{short, after-short, after-header, after-keys}
 use Rattle.sheet_read.proofs.Outcome.{turned-back, told-as}
 use Rattle.sheet_read.proofs.read_sheet.Statement.{statement}
@@ -69,7 +68,7 @@ module _ (c : tie.After-enum-told2) where
   abbrev h : tie.After-known-told
   h = checked .before
 
-  no-header : headerRefusal (s h) ≡ none
+  no-header : sizesRefusal (sheetOf (s h)) (length (s h)) ≡ none
   unfolding refusalOf
   no-header = sym (checked .check-header .ensures) ∙ ap refusalOf (c .enum-told2 .given .1)
 

@@ -14,7 +14,7 @@ use borrow.Author.Needs.{needs}
 use Rattle.rules.specs.declared.Verdict.{Verdict}
 use Rattle.rules.specs.Bytes.{unsignedAt, signedAt}
 use Rattle.rules.specs.Sheet.{Sheet, sheetOf, rowOf, columnOf, valueUnder}
-use Rattle.rules.specs.Refusals.{numberOf, numbered, refusalOf, badValue}
+use Rattle.rules.specs.Refusals.{numberOf, numbered, refusalOf, badValue, valueRefusal}
 use Rattle.proof_laws.specs.Read.{gives, unless, unless-no, gives-says, same-gives, refused-says}
 use Rattle.proof_laws.specs.Entries.{noFigureFor}
 use Rattle.proof_laws.specs.FirstPlace.{first-start, first-end, scan, scan-more, scan-found}
@@ -22,7 +22,7 @@ use Rattle.sheet_entries.specs.EntryRead.{entryAnswered, entryRead}
 use Rattle.sheet_header.specs.Header.{Headed, entries-is, keys-begin, sheet-in-range}
 use Rattle.sheet_table.specs.Tabled.{InTable, placeAt, place-below, tabled, figure-in-table}
 use Rattle.sheet_checks.specs.Keys.{figure-there}
-use Rattle.sheet_store.specs.Values.{storedBy, valueRefusal, entry-stored}
+use Rattle.sheet_store.specs.Values.{storedBy, entry-stored}
 use Rattle.sheet_store.proofs.store_entries.Statement.{statement}
 use Rattle.sheet_store.proofs.store_entries.Tie as tie
 
@@ -61,7 +61,7 @@ module _ (c : tie.In-loop Inv-loop μ-loop) where
   i = c .before .loop .i
 
   inside : i < S .entries
-  inside = omega (arith, entries-is h)
+  inside = omega (arith, entries-is (h .header))
 
   there : noFigureFor S i ≡ false
   there = figure-there (start .pre .keyed) i inside
@@ -76,20 +76,20 @@ module _ (c : tie.After-read-entry Inv-loop μ-loop) where
 
   key-read : c .before .before .size-at .result ≡ S here .key (i here)
   key-read =
-      c .before .before .size-at .ensures .is ∙ ap (unsignedAt 2 (s here)) (omega (arith, keys-begin (h here)))
+      c .before .before .size-at .ensures .is ∙ ap (unsignedAt 2 (s here)) (omega (arith, keys-begin (h here .header)))
 
   value-read : toZ w32 (ofZ w32 (c .before .signed-32 .result)) ≡ S here .value (i here)
   value-read =
       let number = c .before .signed-32 in
       let fits : SFits w32 (number .result) = search needs in
-      toZ-ofZ fits ∙ number .ensures ∙ ap (signedAt 4 (s here)) (omega (arith, entries-is (h here), keys-begin (h here)))
+      toZ-ofZ fits ∙ number .ensures ∙ ap (signedAt 4 (s here)) (omega (arith, entries-is (h here .header), keys-begin (h here .header)))
 
   read-is : entryAnswered (c .read-entry .result)
       ≡ unless 6 (badValue (S here) (i here)) (gives (S here .value (i here)))
   unfolding entryRead badValue
   read-is =
       c .read-entry .ensures
-      ∙ (λ j. entryRead (h here .is j .sizes .shape) (key-read j) (value-read j))
+      ∙ (λ j. entryRead (h here .header .is j .sizes .shape) (key-read j) (value-read j))
       ∙ unless-no 5 _ (there here)
 
 returns : tie.Need-returns Inv-loop μ-loop
@@ -154,7 +154,7 @@ returns-2 c =
     let ended = c .before in
     let start = ended .before .before .before .before in
     let all : ended .loop .i ≡ start .args .header .entries = omega arith in (
-      sym (first-end _ (all ∙ entries-is (start .pre .keyed .headed)) (ended .loop .inv .values)),
+      sym (first-end _ (all ∙ entries-is (start .pre .keyed .headed .header)) (ended .loop .inv .values)),
       ended .loop .inv .stored ∙ ap (λ k. tabled (valueUnder (sheetOf (start .args .s .now)) k)) all,
     )
 

@@ -62,7 +62,7 @@ module _ (c : tie.After-to Inv-loop μ-loop) where
   kept =
       let fits : SFits w32 (at (table turn) (c .before .place-at .result)) = search needs in
       toZ-ofZ fits ∙ ap (at (table turn)) (c .before .place-at .ensures)
-      ∙ sym (table-at (table turn) (3 + i turn) (omega (arith, in-table turn .column-in)))
+      ∙ sym (table-at (table turn) (3 + i turn) (in-table turn .column-in))
 
 loop-again : tie.Need-loop-again Inv-loop μ-loop
 unfolding put

@@ -109,8 +109,8 @@ take-row-spec =
     (λ c. record { fits = omega (arith, place-is c, inside c) })
     element-inside
     (λ c. rw (as-read c) (read-fits c))
-    (λ c. let s = start (turn c) in record { fits = omega (arith, s .pre .near, s .pre .narrow) })
-    (λ c. let s = start (turn c) in record { fits = omega (arith, s .pre .near, s .pre .narrow) })
+    (search needs)
+    (search needs)
     (λ c. room (turn c))
     (search needs)
     (search needs)

@@ -36,7 +36,6 @@ take-row-requires c κs =
       row-in = omega (arith, asked .few);
       narrow = asked .narrow;
       fits = λ j l. asked .fits (turn .before .loop .i) j (turn .loop-test .taken) l;
-      near = omega (arith, asked .few);
       room = omega (arith, asked .few, asked .narrow);
     }
 

@@ -15,7 +15,7 @@ use Rattle.proof_integer.specs.Order.{≤ℤ-trans}
 use Rattle.proof_integer.specs.Range.{bnd-between, bnd-sfits}
 use Rattle.proof_magnitudes.specs.Accepted.{Accepted}
 use Rattle.sheet_table.specs.Tabled.{tableIn}
-use Rattle.sheet_figures.specs.Figures.{row, figuresOf, coefficientsOver}
+use Rattle.sheet_figures.specs.Figures.{array, figuresOf, coefficientsOver}
 use Rattle.sheet_unpack.specs.Unpacked.{RowFits}
 use Rattle.sheet_unpack.proofs.unpack.Statement.{statement}
 use Rattle.sheet_unpack.proofs.unpack.Tie as tie
@@ -55,7 +55,6 @@ module _ (s : tie.Start) where
     row-in = in-table;
     narrow = a .materials-few;
     fits = fits;
-    near = omega arith;
     room = omega (arith, a .materials-few);
   }
 
@@ -90,7 +89,7 @@ take-column-requires c κs =
     record { few = a s .limits-few; column-in = omega (arith, a s .materials-few) }
 
 returns : tie.Need-returns
-unfolding problemFrom figuresOf coefficientsOver row
+unfolding problemFrom figuresOf coefficientsOver array
 returns c =
     let rows = c .before .before in
     let most = rows .before .before .before in
