@@ -82,7 +82,8 @@ in-arrays P k lent narrow few room = record {
 
 -- ---- problems that agree have the same arrays
 module _ {P Q : Problem} (same : Agree P Q) where
-  array-same : (room : ℕ) {n m : ℕ} (f g : ℕ → ℤ) → n ≡ m → ((j : ℕ) → j < m → f j ≡ g j) → array room n f ≡ array room m g
+  array-same : (room : ℕ) {n m : ℕ} (f g : ℕ → ℤ) → n ≡ m → ((j : ℕ) → j < m → f j ≡ g j)
+      → array room n f ≡ array room m g
   unfolding array
   array-same room {n} {m} f g e h =
       (λ i. put (replicate room (pos 0)) 0 (e i) f) ∙ put-cong (replicate room (pos 0)) 0 m f g h

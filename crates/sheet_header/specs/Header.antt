@@ -53,8 +53,10 @@ headed s {h} e passed =
     let (second, last) = otherwise-none _ _ later in
     let sizes = dimensions (sheetOf s .sizes .shape) (sheetOf s .entries) (not-false _ (refuse-false 2 0 _ first)) in
     let long = eqb-true _ _ (not-false _ (refuse-false 3 0 _ second)) in
-    transport (λ j. Headed s (sym e j)) (record { header = record { is = refl }; passed = passed; in-range = sizes; long = long })
+    transport (λ j. Headed s (sym e j))
+    (record { header = record { is = refl }; passed = passed; in-range = sizes; long = long })
 
 -- ---- and in the words of the sheet
-pub sheet-in-range : {s : List ℕ} {h : Header} → Headed s h → SizesInRange (sheetOf s .sizes .shape) (sheetOf s .entries)
+pub sheet-in-range : {s : List ℕ} {h : Header} → Headed s h
+    → SizesInRange (sheetOf s .sizes .shape) (sheetOf s .entries)
 sheet-in-range p = transport (λ j. let g = p .header .is j in SizesInRange (g .sizes .shape) (g .entries)) (p .in-range)

@@ -74,9 +74,11 @@ module _ (c : tie.After-most Inv-loop μ-loop) where
   test-is b h =
       let most-fits : SFits w32 (at (table turn) (c .before .place-at2 .result)) = search needs in
       let least-fits : SFits w32 (at (table turn) (c .before .before .before .place-at .result)) = search needs in
-      let most = ap (at (table turn)) (c .before .place-at2 .ensures) ∙ sym (table-at (table turn) 2 in-table) in
-      let least = ap (at (table turn)) (c .before .before .before .place-at .ensures) ∙ sym (table-at (table turn) 1 in-table) in
-      (λ i. ltZ (sym most i) (sym least i)) ∙ (simp (toZ-ofZ most-fits, toZ-ofZ least-fits) at h)
+      let most-at = sym (c .before .place-at2 .ensures) in
+      let least-at = sym (c .before .before .before .place-at .ensures) in
+      let most = table-at (table turn) 2 in-table ∙ ap (at (table turn)) most-at in
+      let least = table-at (table turn) 1 in-table ∙ ap (at (table turn)) least-at in
+      (λ i. ltZ (most i) (least i)) ∙ (simp (toZ-ofZ most-fits, toZ-ofZ least-fits) at h)
 
 returns : tie.Need-returns Inv-loop μ-loop
 unfolding refusalOf numbered numberOf crossedRefusal

@@ -2,7 +2,7 @@
 use mathlib.Core.Path.{_≡_, refl, sym, ap, _∙_}
 use mathlib.Core.Bool.{false}
 use mathlib.Core.Option.{none}
-use Prim.Native.Nat.{ℕ, _-_, _≤_}
+use Prim.Native.Nat.{ℕ, _-_, _<_, _≤_}
 use native.Mathlib.Omega.{arith}
 use borrow.Author.Needs.{needs}
 use Rattle.rules.specs.Bytes.{unsignedAt}
@@ -73,8 +73,8 @@ returns c =
     let read = told .before .before in
     let a = here read in
     let bad = refused-says 5 5 _ _ (sym (read-is read) ∙ ap keyAnswered (told .enum-told .given .1)) in
-    ap refusalOf (c .refused .ensures)
-    ∙ sym (scan-found 5 (badKey (S a)) (S a .entries) (omega (arith, entries-is (start a .pre .header))) (turn a .keys) bad)
+    let inside : i a < S a .entries = omega (arith, entries-is (start a .pre .header)) in
+    ap refusalOf (c .refused .ensures) ∙ sym (scan-found 5 (badKey (S a)) (S a .entries) inside (turn a .keys) bad)
 
 -- ---- the key is good
 module _ (c : tie.After-known-told Inv-loop μ-loop) where
@@ -113,7 +113,8 @@ unfolding refusalOf keyRefusal
 returns-2 c =
     let ended = c .before in
     let start = ended .before .before .before .before in
-    let all : ended .loop .i ≡ sheetOf (start .args .s .now) .entries = omega (arith, entries-is (start .pre .header)) in
+    let all : ended .loop .i ≡ sheetOf (start .args .s .now) .entries =
+    omega (arith, entries-is (start .pre .header)) in
     sym (first-end _ all (ended .loop .inv .keys))
 
 pub check-keys-spec : {M : Type 1} → statement M

@@ -13,7 +13,7 @@ use Rattle.rules.specs.Ranges.{dimensionsInRange, parametersInRange}
 use Rattle.rules.specs.Refusals.{numberOf, numbered, refusalOf, refuse, _otherwise_, sizesRefusal}
 use Rattle.proof_laws.specs.Sizes.{SizesInRange, dimensions, short-header}
 use Rattle.proof_laws.specs.FirstPlace.{refuse-yes, refuse-no, given, handed-on}
-use Rattle.sheet_header.specs.Header.{headerOf, entries-is, keys-begin}
+use Rattle.sheet_header.specs.Header.{HasHeader, headerOf, entries-is, keys-begin}
 use Rattle.sheet_header.proofs.check_header.Statement.{statement}
 use Rattle.sheet_header.proofs.check_header.Tie as tie
 
@@ -49,6 +49,10 @@ module _ (c : tie.Else1) where
   in-range : SizesInRange (S first .sizes .shape) (S first .entries)
   in-range = dimensions _ _ (tested first ∙ not-false _ (c .if1 .left))
 
+  -- e and where the keys begin, in the words of the sheet
+  abbrev read : HasHeader (s first) (start first .args .header)
+  read = start first .pre
+
   after-dimensions : sizesRefusal (S first) (length (s first))
       ≡ refuse 3 0 (not (eqb (length (s first)) (sheetLength (S first .entries))))
       otherwise refuse 4 0 (not (parametersInRange (S first .sizes)))
@@ -56,10 +60,10 @@ module _ (c : tie.Else1) where
   after-dimensions = handed-on _ (refuse-no 2 0 (ap not (tested first ∙ not-false _ (c .if1 .left))))
 
 mul-if2 : tie.Need-mul-if2
-mul-if2 c = record { fits = omega (arith, entries-is (start (first c) .pre), in-range c .entries) }
+mul-if2 c = record { fits = omega (arith, entries-is (read c), in-range c .entries) }
 
 add-if2 : tie.Need-add-if2
-add-if2 c = record { fits = omega (arith, entries-is (start (first c) .pre), in-range c .entries, keys-begin (start (first c) .pre), short-header) }
+add-if2 c = record { fits = omega (arith, entries-is (read c), in-range c .entries, keys-begin (read c), short-header) }
 
 returns-2 : tie.Need-returns-2
 unfolding refusalOf numbered numberOf
@@ -67,7 +71,7 @@ returns-2 c =
     let taken = c .before in
     let d = taken .before in
     let out = ap not (ne-eqb (length (s (first d))) (sheetLength (S (first d) .entries))
-    (λ q. taken .if2 .taken (omega (arith, entries-is (start (first d) .pre), keys-begin (start (first d) .pre))))) in
+    (λ q. taken .if2 .taken (omega (arith, entries-is (read d), keys-begin (read d))))) in
     ap refusalOf (c .refused2 .ensures) ∙ sym (after-dimensions d ∙ given _ (refuse-yes 3 0 out))
 
 -- ---- and the length fits
@@ -77,7 +81,8 @@ after-length c =
     let d = c .before .before in
     let f = first d in
     let long = c .before .if2 .left in
-    let fits = ap not (eq-eqb (length (s f)) (sheetLength (S f .entries)) (omega (arith, entries-is (start (first d) .pre), keys-begin (start (first d) .pre)))) in
+    let fits = ap not (eq-eqb (length (s f)) (sheetLength (S f .entries))
+    (omega (arith, entries-is (read d), keys-begin (read d)))) in
     after-dimensions d ∙ handed-on _ (refuse-no 3 0 fits)
     ∙ (λ i. refuse 4 0 (not (parametersInRange (sym (is f) i .sizes))))
     ∙ ap (λ b. refuse 4 0 (not b)) (sym (c .parameters-in-range .ensures))

@@ -82,7 +82,8 @@ module _ (c : tie.After-read-entry Inv-loop μ-loop) where
   value-read =
       let number = c .before .signed-32 in
       let fits : SFits w32 (number .result) = search needs in
-      toZ-ofZ fits ∙ number .ensures ∙ ap (signedAt 4 (s here)) (omega (arith, entries-is (h here .header), keys-begin (h here .header)))
+      let read = h here .header in
+      toZ-ofZ fits ∙ number .ensures ∙ ap (signedAt 4 (s here)) (omega (arith, entries-is read, keys-begin read))
 
   read-is : entryAnswered (c .read-entry .result)
       ≡ unless 6 (badValue (S here) (i here)) (gives (S here .value (i here)))
