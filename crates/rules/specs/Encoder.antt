@@ -34,4 +34,6 @@ keysOf T = picked allKeys (λ key. not (isZero (T key)))
 
 -- The bytes of sizes and a table.
 unfoldable pub written : Sizes → Table → List ℕ
-written z T = laidOut (sizesWith z (length (keysOf T))) (keysOf T) (map T (keysOf T))
+written z T =
+    let keys = keysOf T in
+    laidOut (sizesWith z (length keys)) keys (map T keys)
