@@ -22,7 +22,7 @@ sizesWith z e = z .shape .materials ∷ z .shape .limits ∷ e ∷ z .numerator 
 -- the numbers below n that pass a test, rising
 unfoldable pub picked : ℕ → (ℕ → Bool) → List ℕ
 picked zero test = []
-picked (suc n) test = picked n test ++ cond (test n) (n ∷ []) []
+picked (suc n) test = cond (test n) (picked n test ++ (n ∷ [])) (picked n test)
 
 -- the keys of the largest shape lie below this: 19 rows of 64 columns
 abbrev pub allKeys : ℕ

@@ -81,14 +81,19 @@ pub record Row : Type 0 where
 abbrev pub lent : ℕ → List ℕ
 lent room = replicate room 170
 
--- What the definitions give is what the row says: the answer, the buffer afterwards, the listing, and the listing out of answer and buffer. Whoever unfolds it computes with them all.
+-- the buffer afterwards, as the row says it
+abbrev pub after : Row → List ℕ
+after r = r .bytes ++ drop (length (r .bytes)) (lent (r .room))
+
+-- What the definitions give is what the row says: the answer, the buffer afterwards, the listing, and the listing out of
+-- that answer and that buffer. Whoever unfolds it computes with them all.
 unfoldable pub Holds : Row → Type 0
 unfolding headerLength isZero laid laidOut picked keysOf written entered nibble unspaced pairs outcome numbered numberOf maxℤ sumTo tabulate costOf loadOf unsignedAt signedOf signedAt unsignedBytes signedBytes valueUnder problemFrom ranges indexOf rangeOf kindAt inRange between dimensionsInRange parametersInRange anyBelow reducedCost amount residual dualValue lookAt greatestCost cheapestCost infeasible moved next diverged startingMultiplier start stateAfter lookAfter lowAfter gapOf planAfter recordOf recordLength recorded holdsRecord refuse _otherwise_ firstBelow noFigureAt notAbove badKey valueBad badValue crossed sizesRefusal keyRefusal valueRefusal boundRefusal layoutRefusal refusalAt stepRefusal planRefusal outcomeOf planOf refusal answerTo answer bufferOf bufferAfter text digits decimal spaced line lines planText refusalText textOf listing textFrom
 Holds r =
     (answer (r .sheet) (r .room) ≡ outcome (r .answer)) ×
-    (bufferAfter (r .sheet) (lent (r .room)) ≡ r .bytes ++ drop (length (r .bytes)) (lent (r .room))) ×
+    (bufferAfter (r .sheet) (lent (r .room)) ≡ after r) ×
     (listing (r .sheet) (r .room) ≡ r .listing) ×
-    (textFrom (answer (r .sheet) (r .room)) (bufferAfter (r .sheet) (lent (r .room))) ≡ r .listing)
+    (textFrom (outcome (r .answer)) (after r) ≡ r .listing)
 
 -- every row of a table holds
 unfoldable pub AllHold : List Row → Type 0
