@@ -5,7 +5,6 @@ use native.Mathlib.Omega.{arith}
 use lib.IntN.{pos, negsuc, _-ℤ_, +ℤ-idr}
 use mir.Syntax.{w64}
 use mir.Facts.{toZ-ofZ, toZ-pos}
-use borrow.Author.Needs.{needs}
 use Rattle.bytes_read.specs.Width.{Halved, halved, signed-lower, signed-upper}
 use Rattle.bytes_read.proofs.signed_of.Statement.{statement}
 use Rattle.bytes_read.proofs.signed_of.Tie as tie
@@ -59,7 +58,7 @@ pub signed-of-spec : {M : Type 1} → statement M
 signed-of-spec =
     tie.close
     (tie.spec
-    (search needs)
+    (λ c. omega arith)
     cast-result
     sub-result
     add-result

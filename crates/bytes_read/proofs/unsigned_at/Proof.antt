@@ -83,10 +83,10 @@ unsigned-at-spec =
     loop-holds
     (search needs)
     mul-value
-    (search needs)
+    (λ c. omega arith)
     (search needs)
     cast-value
     add-value-2
-    (search needs)
+    (λ c. omega arith)
     loop-again
     returns)

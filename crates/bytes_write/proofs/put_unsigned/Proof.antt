@@ -72,8 +72,8 @@ put-unsigned-spec =
     loop-holds
     (search needs)
     (search needs)
-    (search needs)
-    (search needs)
+    (λ c. omega arith)
+    (λ c. omega arith)
     (search needs)
     loop-again
     (search needs)

@@ -55,7 +55,7 @@ put-32-spec =
     (λ c. no-field)
     (search needs)
     (search needs)
-    (search needs)
+    (λ c. omega arith)
     cast-put-signed
     put-signed-requires
     (search needs)

@@ -48,7 +48,7 @@ put-64-spec =
     (λ c. no-field)
     (search needs)
     (search needs)
-    (search needs)
+    (λ c. omega arith)
     put-signed-requires
     (search needs)
     (search needs)

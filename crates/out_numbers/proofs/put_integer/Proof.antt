@@ -94,7 +94,7 @@ put-integer-spec =
     sub-put-number
     cast-put-number
     add-put-number
-    (λ c κs. search needs)
+    (λ c κs. omega arith)
     (search needs)
     returns
     cast-put-number-2

@@ -54,7 +54,7 @@ put-number-spec =
     (search needs)
     (search needs)
     (λ c κs. search needs)
-    (search needs)
+    (λ c. omega arith)
     loop-again
     (λ c. length-kept (returns c))
     returns)

@@ -120,8 +120,8 @@ amount-at-spec =
     mul-scaled-2
     dot-column-64-requires
     (search needs)
-    (search needs)
-    (search needs)
-    (search needs)
+    (λ c. omega arith)
+    (λ c. omega arith)
+    (λ c. omega arith)
     (λ c κs. search needs)
     returns)

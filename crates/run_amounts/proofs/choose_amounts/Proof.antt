@@ -66,7 +66,7 @@ choose-amounts-spec =
     (λ c. (omega arith, c .pre .empty ∙ sym (fill-start 32 _)))
     amount-at-requires
     (search needs)
-    (search needs)
+    (λ c. omega arith)
     (search needs)
     (search needs)
     loop-again

@@ -80,13 +80,13 @@ choose-ends-spec =
     (search needs)
     (λ c. widened w64 tt (cost-fits c))
     mul-end-by-2
+    (λ c. omega arith)
     (search needs)
     (search needs)
-    (search needs)
-    (search needs)
+    (λ c. omega arith)
     (λ c κs. search needs)
     (search needs)
-    (search needs)
+    (λ c. omega arith)
     (search needs)
     (search needs)
     loop-again

@@ -81,7 +81,7 @@ take-residuals-spec =
     (search needs)
     sub-residuals
     (search needs)
-    (search needs)
+    (λ c. omega arith)
     (search needs)
     (search needs)
     loop-again

@@ -170,13 +170,13 @@ move-multipliers-spec =
     (tie.spec
     Inv-loop
     μ-loop
-    (search needs)
+    (λ c. omega arith)
     (λ c. record { within = omega arith; small = any-start _; done = changed-start })
     (search needs)
     (search needs)
     cast-old
     (search needs)
-    (search needs)
+    (λ c. omega arith)
     (λ c. widened w64 tt (residual-fits c))
     mul-plus-64-2
     plus-64-requires
@@ -184,7 +184,7 @@ move-multipliers-spec =
     returns
     cast-multipliers
     (search needs)
-    (search needs)
+    (λ c. omega arith)
     (search needs)
     (search needs)
     loop-again

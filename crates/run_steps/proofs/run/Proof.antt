@@ -124,6 +124,6 @@ run-spec =
     (search needs)
     returns
     (search needs)
-    (search needs)
+    (λ c. omega arith)
     loop-again
     returns-2)

@@ -65,9 +65,9 @@ dot-32-spec =
     (λ c. turn-start _ _ _ _ (search needs))
     (search needs)
     (search needs)
+    (λ c. omega arith)
     (search needs)
-    (search needs)
-    (search needs)
+    (λ c. omega arith)
     plus-product-32-requires
     (search needs)
     (search needs)

@@ -94,6 +94,6 @@ dot-column-64-spec =
     (λ c. widened w32 tt (a-fits c))
     plus-product-64-requires
     (search needs)
-    (search needs)
+    (λ c. omega arith)
     loop-again
     returns)

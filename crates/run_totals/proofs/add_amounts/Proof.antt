@@ -45,12 +45,12 @@ add-amounts-spec =
     (search needs)
     (search needs)
     (search needs)
-    (search needs)
+    (λ c. omega arith)
     (λ c. widened w32 tt (more-fits c))
     plus-32-requires
     (search needs)
+    (λ c. omega arith)
     (search needs)
-    (search needs)
-    (search needs)
+    (λ c. omega arith)
     loop-again
     (λ c. turn-end (c .before .loop .inv) (omega arith)))

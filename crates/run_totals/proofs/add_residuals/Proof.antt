@@ -45,12 +45,12 @@ add-residuals-spec =
     (search needs)
     (search needs)
     (search needs)
-    (search needs)
+    (λ c. omega arith)
     (λ c. widened w64 tt (more-fits c))
     plus-64-requires
     (search needs)
+    (λ c. omega arith)
     (search needs)
-    (search needs)
-    (search needs)
+    (λ c. omega arith)
     loop-again
     (λ c. turn-end (c .before .loop .inv) (omega arith)))
