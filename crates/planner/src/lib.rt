@@ -73,7 +73,8 @@ fn plan_figures(f: Figures, coefficient: &[i16; 512], record: &mut [u8]) -> Answ
     plan_run(f, coefficient, record)
 }
 
-// Plans a sheet: any bytes, into any buffer. The answer is a plan's low and gap, with its record at the start of the buffer, or a refusal, with the buffer as it was.
+// Plans a sheet: any bytes, into any buffer. The answer is a plan's low and gap, with its record at the start of the
+// buffer, or a refusal, with the buffer as it was.
 // In the contract `now (x .entry)` is the bytes of x when the function is called, and `now (x .exit)` when it returns.
 pub fn plan(sheet: &[u8], record: &mut [u8]) -> Answer
     ensures { λ r. ⌜ Promise (now (sheet .entry)) (now («record» .entry)) (now («record» .exit)) r ⌝ }

@@ -1,4 +1,5 @@
--- What a sheet that follows the layout has: its sizes and its figures in their ranges, and no least amount above the most.
+-- What a sheet that follows the layout has: its sizes and its figures in their ranges, and no least amount above
+-- the most.
 -- For a figure is 0 or the value of an entry, and the value of every entry passed the test of its range.
 use mathlib.Core.Path.{_≡_, refl}
 use mathlib.Core.Bool.{Bool, true, false, not, cond}

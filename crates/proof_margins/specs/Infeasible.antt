@@ -1,4 +1,5 @@
--- Refusal 9 is given only where there is no feasible point. It comes from rule 3 of a step alone: every other test gives another number.
+-- Refusal 9 is given only where there is no feasible point. It comes from rule 3 of a step alone: every other test
+-- gives another number.
 use mathlib.Core.Path.{_≡_, refl}
 use mathlib.Core.Bool.{Bool, true, false, not}
 use mathlib.Core.List.{List}

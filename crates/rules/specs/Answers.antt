@@ -23,8 +23,8 @@ unfoldable pub outcome : Answer → Outcome
 outcome (Answer.Plan low gap) = plan low gap
 outcome (Answer.Refused r) = refused (numbered r)
 
--- Refusals 9 and 10 at step t, 9 before 10: of what the step works out, and of the multipliers after it. The place is the step's
--- number.
+-- Refusals 9 and 10 at step t, 9 before 10: of what the step works out, and of the multipliers after it. The place is
+-- the step's number.
 unfoldable pub refusalAt : Problem → ℕ → Option Numbered
 refusalAt P t =
     refuse 9 t (infeasible P (lookAfter P t)) otherwise refuse 10 t (diverged P (stateAfter P (suc t) .multipliers))

@@ -1,4 +1,5 @@
--- Document 01, the examples of the table of refusals; and sheets that settle what they and C1 to C10 leave open. Tables of the same form, each with its proof.
+-- Document 01, the examples of the table of refusals; and sheets that settle what they and C1 to C10 leave open. Tables
+-- of the same form, each with its proof.
 use Prim.Native.Nat.{ℕ, _+_, _*_}
 use Prim.Native.String.{String}
 use mathlib.Core.Path.{_≡_, refl}
@@ -155,7 +156,8 @@ pub longest : sheetLength (mostEntries largest) ≡ 3756
 unfolding headerLength
 longest = refl
 
--- every kind of figure stands in the table of ranges, so that nothing is read past its end, and the row there is its own
+-- every kind of figure stands in the table of ranges, so that nothing is read past its end, and the row
+-- there is its own
 pub kinds-found : (kind : Kind) (past : Range) → (getD ranges (indexOf kind) past ≡ rangeOf kind) × (rangeOf kind .kind ≡ kind)
 unfolding ranges indexOf rangeOf
 kinds-found Kind.Cost past = (refl, refl)
@@ -177,13 +179,14 @@ longest-record = refl
 -- ---- the steps
 abbrev pub steps : List Row
 steps =
-    -- Two materials and two limits, p = 2, D = 3, k = 3: costs 1 and 2, most amounts 4 and 5, −x₀ ≤ −3 and x₀ − x₁ ≤ −1. By hand:
+    -- Two materials and two limits, p = 2, D = 3, k = 3: costs 1 and 2, most amounts 4 and 5,
+    -- −x₀ ≤ −3 and x₀ − x₁ ≤ −1. By hand:
     -- step 0: M = 0, 0; weights 3, 6; amounts 0, 0; misses 3, 1; value 0.
     -- step 1: M = 6, 2; weights 3−6+2 = −1, 6−2 = 4; amounts 4, 0; misses −1, 5; value 3·4 + 6·(−1) + 2·5 = 16.
     -- step 2: M = 4, 12; weights 3−4+12 = 11, 6−12 = −6; amounts 0, 5; misses 3, −4; value 3·10 + 4·3 + 12·(−4) = −6.
     -- Closing M = 10, 4; sums 4, 5; overshoots 5, 2; low 16; gap 3·(4+10) − 3·16 = −6.
-    -- Were limit 1 updated with limit 0 already at 6, material 0 would weigh −3 in step 0, its amount would be 4, the miss of limit 1 would be 5
-    -- and its multiplier 10, not 2.
+    -- Were limit 1 updated with limit 0 already at 6, material 0 would weigh −3 in step 0, its amount would be 4, the
+    -- miss of limit 1 would be 5 and its multiplier 10, not 2.
     record {
       sheet =
           encode 2 2 2 3 3
@@ -204,8 +207,10 @@ steps =
       bytes = hex "0100 0200 0200 1900000000000000 3200000000000000 0a000000 00000000 0a000000 fad8ffffffffffff 0a00000000000000";
       listing = text "steps 2\nmat 0 10\nlim 0 0 -9990\nlim 1 10 10\nlow 25\ngap 50\n";
     } ∷
-    -- A negative cost: the greatest cost is −2·1, with the least amount, and not −2·3. Cost −2, from 1 to 3, x ≤ 2, k = 2. By hand:
-    -- step 0: M = 0; weight −2; amount 3; miss 1; value −6. Step 1: M = 1; weight −1; amount 3; miss 1; value −6 + 1 = −5, which −2 allows.
+    -- A negative cost: the greatest cost is −2·1, with the least amount, and not −2·3. Cost −2, from 1 to 3,
+    -- x ≤ 2, k = 2. By hand:
+    -- step 0: M = 0; weight −2; amount 3; miss 1; value −6.
+    -- step 1: M = 1; weight −1; amount 3; miss 1; value −6 + 1 = −5, which −2 allows.
     record {
       sheet = encode 1 1 1 1 2 (0 ∶ neg 2 ∷ 64 ∶ pos 1 ∷ 128 ∶ pos 3 ∷ 192 ∶ pos 1 ∷ 193 ∶ pos 2 ∷ []);
       room = 38;

@@ -18,7 +18,8 @@
 --   Marked     C1 to C10
 --   Examples   the examples of the refusals, their order, the ends of the ranges, and steps worked by hand
 --   Points     feasible points and points just outside; what demand 3 says in numbers; claims refuted
--- Signs: `pos n` and `negsuc n` are the integers n and −(n + 1). `ltb leb eqb` test naturals for < ≤ =, and `ltZ leZ` integers for < ≤.
+-- Signs: `pos n` and `negsuc n` are the integers n and −(n + 1). `ltb leb eqb` test naturals for < ≤ =, and `ltZ leZ`
+-- integers for < ≤.
 -- `cond b x y` is x where the test b holds, else y. `getD s i d` is element i of the list s, or d past its end.
 pub mod Notation
 pub mod Problem

@@ -1,7 +1,7 @@
 -- Document 01, "Marked sheets": C1 to C10, one table, and one proof that it follows from the definitions.
 use mathlib.Core.Path.{_≡_, refl}
 use Prim.Native.Nat.{ℕ}
-use mathlib.Core.List.{List, [], _∷_, map}
+use mathlib.Core.List.{List, [], _∷_, _++_, map}
 use lib.IntN.{pos}
 use Rattle.rules.specs.Notation.{neg, at}
 use Rattle.rules.specs.declared.Answer.the-variants.{Plan, Refused}
@@ -132,8 +132,10 @@ marked = ((refl, refl, refl, refl), ((refl, refl, refl, refl), ((refl, refl, ref
 -- ---- their bytes: the six sizes, the keys, the values
 abbrev pub sheets : List (List ℕ)
 sheets =
-    hex "0200 0100 0700 0100 0800 0400  0000 0100 8000 8100 c000 c100 c200  03000000 01000000 0a000000 0a000000 feffffff ffffffff f4ffffff" ∷
-    hex "0200 0100 0700 0100 0800 0100  0000 0100 8000 8100 c000 c100 c200  03000000 01000000 0a000000 0a000000 feffffff ffffffff f4ffffff" ∷
+    (hex "0200 0100 0700 0100 0800 0400  0000 0100 8000 8100 c000 c100 c200"
+    ++ hex "03000000 01000000 0a000000 0a000000 feffffff ffffffff f4ffffff") ∷
+    (hex "0200 0100 0700 0100 0800 0100  0000 0100 8000 8100 c000 c100 c200"
+    ++ hex "03000000 01000000 0a000000 0a000000 feffffff ffffffff f4ffffff") ∷
     hex "0100 0100 0400 0100 0100 0200  0000 8000 c000 c100  01000000 01000000 ffffffff fbffffff" ∷
     hex "0100 0100 0400 0100 0100 0100  0000 8000 c000 c100  01000000 01000000 ffffffff fbffffff" ∷
     hex "0100 0100 0100 0004 0100 0100  c100  ffffefff" ∷

@@ -67,7 +67,8 @@ pairs (c ∷ d ∷ cs) = (16 * nibble c + nibble d) ∷ pairs cs
 abbrev pub hex : String → List ℕ
 hex s = pairs (unspaced (text s))
 
--- A sheet and the length of the lent buffer; and what must come out: the answer, the record's bytes (none for a refusal) and the listing.
+-- A sheet and the length of the lent buffer; and what must come out: the answer, the record's bytes (none for a
+-- refusal) and the listing.
 pub record Row : Type 0 where
   pub sheet : List ℕ
   pub room : ℕ
@@ -85,8 +86,8 @@ lent room = replicate room 170
 abbrev pub after : Row → List ℕ
 after r = r .bytes ++ drop (length (r .bytes)) (lent (r .room))
 
--- What the definitions give is what the row says: the answer, the buffer afterwards, the listing, and the listing out of
--- that answer and that buffer. Whoever unfolds it computes with them all.
+-- What the definitions give is what the row says: the answer, the buffer afterwards, the listing, and the listing out
+-- of that answer and that buffer. Whoever unfolds it computes with them all.
 unfoldable pub Holds : Row → Type 0
 unfolding headerLength isZero laid laidOut picked keysOf written entered nibble unspaced pairs outcome numbered numberOf maxℤ sumTo tabulate costOf loadOf unsignedAt signedOf signedAt unsignedBytes signedBytes valueUnder problemFrom ranges indexOf rangeOf kindAt inRange between dimensionsInRange parametersInRange anyBelow reducedCost amount residual dualValue lookAt greatestCost cheapestCost infeasible moved next diverged startingMultiplier start stateAfter lookAfter lowAfter gapOf planAfter recordOf recordLength recorded holdsRecord refuse _otherwise_ firstBelow noFigureAt notAbove badKey valueBad badValue crossed sizesRefusal keyRefusal valueRefusal boundRefusal layoutRefusal refusalAt stepRefusal planRefusal outcomeOf planOf refusal answerTo answer bufferOf bufferAfter text digits decimal spaced line lines planText refusalText textOf listing textFrom
 Holds r =
