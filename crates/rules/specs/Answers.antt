@@ -1,4 +1,4 @@
--- Document 01, "The record" and "When a sheet is turned back": the answer to a sheet, and the lent buffer afterwards.
+-- TASK.md, T7: the answer to a sheet, and the lent buffer afterwards.
 use Prim.Native.Nat.{ℕ, suc}
 use mathlib.Core.List.{List, _++_}
 use mathlib.Core.Option.{Option, none, some}
@@ -13,7 +13,7 @@ use Rattle.rules.specs.Run.{Plan, stateAfter, lookAfter, planAfter}
 use Rattle.rules.specs.Record.{recordOf, recordLength}
 use Rattle.rules.specs.Refusals.{Numbered, numbered, refuse, _otherwise_, firstBelow, layoutRefusal}
 
--- To the caller, the answer is a plan's two figures or a refusal with number and place.
+-- T7.1, the answer: the low and the gap of a plan, or a refusal.
 pub data Outcome : Type 0 where
   plan : (low gap : ℤ) → Outcome
   refused : Numbered → Outcome
@@ -23,8 +23,8 @@ unfoldable pub outcome : Answer → Outcome
 outcome (Answer.Plan low gap) = plan low gap
 outcome (Answer.Refused r) = refused (numbered r)
 
--- Refusals 9 and 10 at step t, 9 before 10: of what the step works out, and of the multipliers after it. The place is
--- the step's number.
+-- T7.3, refusals 9 and 10 at step t, 9 before 10: of what the step works out, and of the multipliers after it. The
+-- place is the step's number.
 unfoldable pub refusalAt : Problem → ℕ → Option Numbered
 refusalAt P t =
     refuse 9 t (infeasible P (lookAfter P t)) otherwise refuse 10 t (diverged P (stateAfter P (suc t) .multipliers))
@@ -33,7 +33,7 @@ refusalAt P t =
 unfoldable pub stepRefusal : Problem → ℕ → Option Numbered
 stepRefusal P k = firstBelow k (refusalAt P)
 
--- refusal 8, of a record buffer of `room` bytes, and then those of k steps
+-- T7.4, refusal 8, of a record buffer of `room` bytes, and then those of k steps
 unfoldable pub planRefusal : Problem → ℕ → ℕ → Option Numbered
 planRefusal P k room =
     let wanted = recordLength (P .materials) (P .limits) in
@@ -58,11 +58,11 @@ module _ (S : Sheet) where
   unfoldable pub answerTo : Option Numbered → ℕ → Outcome
   answerTo layout room = outcomeOf planOf (refusal layout room)
 
--- The answer to a sheet's bytes and a record buffer of `room` bytes.
+-- T7.1, the answer to a sheet's bytes and a record buffer of `room` bytes.
 unfoldable pub answer : List ℕ → ℕ → Outcome
 answer s room = answerTo (sheetOf s) (layoutRefusal s) room
 
--- for a plan the record, then the rest as lent; for a refusal the buffer as lent
+-- T6.3, for a plan the record, then the rest as lent; T7.2, for a refusal the buffer as lent
 unfoldable pub bufferOf : Plan → List ℕ → Outcome → List ℕ
 bufferOf p lent (plan low gap) = recordOf p ++ drop (recordLength (p .materials) (p .limits)) lent
 bufferOf p lent (refused r) = lent

@@ -1,4 +1,4 @@
--- Document 01, "All figures are little-endian": numbers of w bytes, read and written. Signed ones are in two's complement.
+-- TASK.md, T2.1: numbers of w bytes, the lowest first, read and written. Signed ones are in two's complement.
 use Prim.Native.Nat.{ℕ, zero, suc, _+_, _-_, _*_, _/_, _%_, _^_}
 use mathlib.Core.Bool.{cond}
 use mathlib.Core.List.{List, [], _∷_, _++_}

@@ -1,5 +1,4 @@
--- Document 01, "The batch sheet", from figures to bytes: the sizes, then an entry for each figure that is not 0, with
--- rising keys.
+-- TASK.md, T3.5: from figures to bytes, the sizes and then an entry for each figure that is not 0, with rising keys.
 use Prim.Native.Nat.{ℕ, zero, suc, _+_}
 use mathlib.Core.Bool.{Bool, not, cond}
 use mathlib.Core.List.{List, [], _∷_, _++_, map}
@@ -11,7 +10,7 @@ use Rattle.rules.specs.Bytes.{unsignedBytes, signedBytes, laid}
 use Rattle.rules.specs.Sheet.{Table, keyOf}
 use Rattle.rules.specs.Ranges.{largest}
 
--- sizes and keys of 2 bytes each, then values of 4 bytes each
+-- T2.2, T2.4: sizes and keys of 2 bytes each, then values of 4 bytes each
 unfoldable pub laidOut : List ℕ → List ℕ → List ℤ → List ℕ
 laidOut sizes keys values = laid (unsignedBytes 2) sizes ++ laid (unsignedBytes 2) keys ++ laid (signedBytes 4) values
 
@@ -28,11 +27,11 @@ picked (suc n) test = cond (test n) (picked n test ++ (n ∷ [])) (picked n test
 abbrev pub allKeys : ℕ
 allKeys = keyOf (3 + largest .limits) 0
 
--- the keys of a table that have an entry
+-- T3.3, T3.4: the keys of a table that have an entry, rising
 unfoldable pub keysOf : Table → List ℕ
 keysOf T = picked allKeys (λ key. not (isZero (T key)))
 
--- The bytes of sizes and a table.
+-- T3.5, the bytes of sizes and a table.
 unfoldable pub written : Sizes → Table → List ℕ
 written z T =
     let keys = keysOf T in

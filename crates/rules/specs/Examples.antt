@@ -1,5 +1,5 @@
--- Document 01, the examples of the table of refusals; and sheets that settle what they and C1 to C10 leave open. Tables
--- of the same form, each with its proof.
+-- The examples of the table of refusals (TASK.md, T7.4); and sheets that settle what they and C1 to C10 leave open.
+-- Tables of the same form, each with its proof.
 use Prim.Native.Nat.{ℕ, _+_, _*_}
 use Prim.Native.String.{String}
 use mathlib.Core.Path.{_≡_, refl}
@@ -14,7 +14,8 @@ use Rattle.rules.specs.declared.Kind.{Kind}
 use Rattle.rules.specs.declared.Range.{Range}
 use Rattle.rules.specs.declared.Sizes.{Sizes}
 use Rattle.rules.specs.declared.Cause.{Cause}
-use Rattle.rules.specs.declared.Cause.the-variants.{Short, Dimensions, Length, Parameters, Key, Value, Bounds, Buffer, Infeasible, Diverged}
+use Rattle.rules.specs.declared.Cause.the-variants.{Short, Dimensions, Length, Parameters, Key, Value, Bounds}
+use Rattle.rules.specs.declared.Cause.the-variants.{Buffer, Infeasible, Diverged}
 use Rattle.rules.specs.Bytes.{signedAt, unsignedBytes, laid}
 use Rattle.rules.specs.Sheet.{headerLength, sheetLength}
 use Rattle.rules.specs.Encoder.{sizesWith}
@@ -22,15 +23,21 @@ use Rattle.rules.specs.Ranges.{ranges, indexOf, rangeOf, mostEntries, la
 use Rattle.rules.specs.Record.{recordLength, longestRecord}
 use Rattle.rules.specs.Refusals.{layoutRefusal}
 use Rattle.rules.specs.Listing.{text}
-use Rattle.rules.specs.Rows.{_∶_, header, encode, hex, Row, Holds, AllHold}
+use Rattle.rules.specs.Rows.{_∶_, header, encode, hex, Row, Holds, AllHold, _and_}
 use Rattle.rules.specs.Marked.{C1, C3, C7}
 
 -- a row for a refusal
 abbrev refusal-row : List ℕ → ℕ → Cause → ℕ → String → Row
 refusal-row sheet room cause place listing =
-    record { sheet = sheet; room = room; answer = Refused (record { place = place; cause = cause }); bytes = []; listing = text listing }
+    record {
+      sheet = sheet;
+      room = room;
+      answer = Refused (record { place = place; cause = cause });
+      bytes = [];
+      listing = text listing;
+    }
 
--- ---- the examples of the table; those of 7, 9 and 10 are C10, C3 and C5
+-- ---- the examples of T7.4; those of 7, 9 and 10 are C10, C3 and C5
 abbrev pub examples : List Row
 examples =
     -- 11 bytes
@@ -53,13 +60,24 @@ examples =
 
 pub examples-hold : AllHold examples
 unfolding Holds AllHold
-examples-hold = ((refl, refl, refl, refl), ((refl, refl, refl, refl), ((refl, refl, refl, refl), ((refl, refl, refl, refl), ((refl, refl, refl, refl), ((refl, refl, refl, refl), ((refl, refl, refl, refl), ((refl, refl, refl, refl), tt))))))))
+examples-hold =
+    (refl, refl, refl, refl)
+    and (refl, refl, refl, refl)
+    and (refl, refl, refl, refl)
+    and (refl, refl, refl, refl)
+    and (refl, refl, refl, refl)
+    and (refl, refl, refl, refl)
+    and (refl, refl, refl, refl)
+    and (refl, refl, refl, refl)
+    and tt
 
--- ---- more on the order of the refusals
+-- ---- T7.3, more on the order of the refusals
 abbrev pub order : List Row
 order =
     -- e above its greatest, though the length fits: 2, not 5
-    refusal-row (encode 1 0 1 1 1 (0 ∶ pos 1 ∷ 64 ∶ pos 1 ∷ 128 ∶ pos 1 ∷ 192 ∶ pos 1 ∷ [])) 42 Dimensions 0 "refused 2 0\n" ∷
+    refusal-row
+    (encode 1 0 1 1 1 (0 ∶ pos 1 ∷ 64 ∶ pos 1 ∷ 128 ∶ pos 1 ∷ 192 ∶ pos 1 ∷ []))
+    42 Dimensions 0 "refused 2 0\n" ∷
     -- a byte too many and k = 0: 3, not 4
     refusal-row (encode 1 0 1 1 0 [] ++ (0 ∷ [])) 42 Length 0 "refused 3 0\n" ∷
     -- a bad value and a least amount above the most: 6, not 7
@@ -74,7 +92,14 @@ order =
 
 pub order-holds : AllHold order
 unfolding Holds AllHold
-order-holds = ((refl, refl, refl, refl), ((refl, refl, refl, refl), ((refl, refl, refl, refl), ((refl, refl, refl, refl), ((refl, refl, refl, refl), ((refl, refl, refl, refl), tt))))))
+order-holds =
+    (refl, refl, refl, refl)
+    and (refl, refl, refl, refl)
+    and (refl, refl, refl, refl)
+    and (refl, refl, refl, refl)
+    and (refl, refl, refl, refl)
+    and (refl, refl, refl, refl)
+    and tt
 
 -- ---- the ends of the ranges
 abbrev pub ends : List Row
@@ -119,7 +144,9 @@ ends =
     } ∷
     -- and at the other: cost 10,000, least 1,000, a −1,000, b 32,000,000; p and D 1,024
     record {
-      sheet = encode 1 1 1024 1024 1 (0 ∶ pos 10000 ∷ 64 ∶ pos 1000 ∷ 128 ∶ pos 1000 ∷ 192 ∶ neg 1000 ∷ 193 ∶ pos 32000000 ∷ []);
+      sheet =
+          encode 1 1 1024 1024 1
+          (0 ∶ pos 10000 ∷ 64 ∶ pos 1000 ∷ 128 ∶ pos 1000 ∷ 192 ∶ neg 1000 ∷ 193 ∶ pos 32000000 ∷ []);
       room = 38;
       answer = Plan (pos 10240000000) (pos 0);
       bytes = hex "0100 0100 0100 00005a6202000000 0000000000000000 e8030000 00000000 c07508feffffffff";
@@ -129,10 +156,42 @@ ends =
 
 pub ends-hold : AllHold ends
 unfolding Holds AllHold
-ends-hold = ((refl, refl, refl, refl), ((refl, refl, refl, refl), ((refl, refl, refl, refl), ((refl, refl, refl, refl), ((refl, refl, refl, refl), ((refl, refl, refl, refl), ((refl, refl, refl, refl), ((refl, refl, refl, refl), ((refl, refl, refl, refl), ((refl, refl, refl, refl), ((refl, refl, refl, refl), ((refl, refl, refl, refl), ((refl, refl, refl, refl), ((refl, refl, refl, refl), ((refl, refl, refl, refl), ((refl, refl, refl, refl), ((refl, refl, refl, refl), ((refl, refl, refl, refl), ((refl, refl, refl, refl), ((refl, refl, refl, refl), ((refl, refl, refl, refl), ((refl, refl, refl, refl), ((refl, refl, refl, refl), ((refl, refl, refl, refl), ((refl, refl, refl, refl), ((refl, refl, refl, refl), ((refl, refl, refl, refl), ((refl, refl, refl, refl), ((refl, refl, refl, refl), tt)))))))))))))))))))))))))))))
+ends-hold =
+    (refl, refl, refl, refl)
+    and (refl, refl, refl, refl)
+    and (refl, refl, refl, refl)
+    and (refl, refl, refl, refl)
+    and (refl, refl, refl, refl)
+    and (refl, refl, refl, refl)
+    and (refl, refl, refl, refl)
+    and (refl, refl, refl, refl)
+    and (refl, refl, refl, refl)
+    and (refl, refl, refl, refl)
+    and (refl, refl, refl, refl)
+    and (refl, refl, refl, refl)
+    and (refl, refl, refl, refl)
+    and (refl, refl, refl, refl)
+    and (refl, refl, refl, refl)
+    and (refl, refl, refl, refl)
+    and (refl, refl, refl, refl)
+    and (refl, refl, refl, refl)
+    and (refl, refl, refl, refl)
+    and (refl, refl, refl, refl)
+    and (refl, refl, refl, refl)
+    and (refl, refl, refl, refl)
+    and (refl, refl, refl, refl)
+    and (refl, refl, refl, refl)
+    and (refl, refl, refl, refl)
+    and (refl, refl, refl, refl)
+    and (refl, refl, refl, refl)
+    and (refl, refl, refl, refl)
+    and (refl, refl, refl, refl)
+    and tt
 
 -- signed numbers of four bytes: the bytes of 0, 2^31 − 1, 2^31 and 2^32 − 1
-pub signed-bytes : map (λ v. signedAt 4 (unsignedBytes 4 v) 0) (0 ∷ 2147483647 ∷ 2147483648 ∷ 4294967295 ∷ []) ≡ pos 0 ∷ pos 2147483647 ∷ neg 2147483648 ∷ neg 1 ∷ []
+pub signed-bytes :
+    map (λ v. signedAt 4 (unsignedBytes 4 v) 0) (0 ∷ 2147483647 ∷ 2147483648 ∷ 4294967295 ∷ [])
+    ≡ pos 0 ∷ pos 2147483647 ∷ neg 2147483648 ∷ neg 1 ∷ []
 unfolding Holds
 signed-bytes = refl
 
@@ -146,19 +205,20 @@ pub header-length : (z : Sizes) (e : ℕ) → length (laid (unsignedBytes 2) (si
 unfolding laid unsignedBytes headerLength
 header-length z e = refl
 
--- the length of a sheet: 12 bytes, and 6 for each entry
+-- T2.5, the length of a sheet: 12 bytes, and 6 for each entry
 pub sheet-length : (e : ℕ) → sheetLength e ≡ 12 + 6 * e
 unfolding headerLength
 sheet-length e = omega arith
 
--- the longest sheet has 3,756 bytes
+-- T2.6, the longest sheet has 3,756 bytes
 pub longest : sheetLength (mostEntries largest) ≡ 3756
 unfolding headerLength
 longest = refl
 
 -- every kind of figure stands in the table of ranges, so that nothing is read past its end, and the row
 -- there is its own
-pub kinds-found : (kind : Kind) (past : Range) → (getD ranges (indexOf kind) past ≡ rangeOf kind) × (rangeOf kind .kind ≡ kind)
+pub kinds-found : (kind : Kind) (past : Range)
+    → (getD ranges (indexOf kind) past ≡ rangeOf kind) × (rangeOf kind .kind ≡ kind)
 unfolding ranges indexOf rangeOf
 kinds-found Kind.Cost past = (refl, refl)
 kinds-found Kind.Least past = (refl, refl)
@@ -166,12 +226,12 @@ kinds-found Kind.Most past = (refl, refl)
 kinds-found Kind.Coefficient past = (refl, refl)
 kinds-found Kind.Rhs past = (refl, refl)
 
--- the length of a record: 22 bytes, 4 for each material, and 12 for each limit
+-- T6.2, the length of a record: 22 bytes, 4 for each material, and 12 for each limit
 pub record-length : (n m : ℕ) → recordLength n m ≡ 22 + 4 * n + 12 * m
 unfolding recordLength
 record-length n m = omega arith
 
--- the longest record has 342 bytes
+-- T6.2, the longest record has 342 bytes
 pub longest-record : longestRecord ≡ 342
 unfolding recordLength
 longest-record = refl
@@ -181,36 +241,43 @@ abbrev pub steps : List Row
 steps =
     -- Two materials and two limits, p = 2, D = 3, k = 3: costs 1 and 2, most amounts 4 and 5,
     -- −x₀ ≤ −3 and x₀ − x₁ ≤ −1. By hand:
-    -- step 0: M = 0, 0; weights 3, 6; amounts 0, 0; misses 3, 1; value 0.
-    -- step 1: M = 6, 2; weights 3−6+2 = −1, 6−2 = 4; amounts 4, 0; misses −1, 5; value 3·4 + 6·(−1) + 2·5 = 16.
-    -- step 2: M = 4, 12; weights 3−4+12 = 11, 6−12 = −6; amounts 0, 5; misses 3, −4; value 3·10 + 4·3 + 12·(−4) = −6.
-    -- Closing M = 10, 4; sums 4, 5; overshoots 5, 2; low 16; gap 3·(4+10) − 3·16 = −6.
-    -- Were limit 1 updated with limit 0 already at 6, material 0 would weigh −3 in step 0, its amount would be 4, the
-    -- miss of limit 1 would be 5 and its multiplier 10, not 2.
+    -- step 0: M = 0, 0; r = 3, 6; x = 0, 0; g = 3, 1; V = 0.
+    -- step 1: M = 6, 2; r = 3−6+2 = −1, 6−2 = 4; x = 4, 0; g = −1, 5; V = 3·4 + 6·(−1) + 2·5 = 16.
+    -- step 2: M = 4, 12; r = 3−4+12 = 11, 6−12 = −6; x = 0, 5; g = 3, −4; V = 3·10 + 4·3 + 12·(−4) = −6.
+    -- Closing M = 10, 4; S = 4, 5; G = 5, 2; low 16; gap 3·(4+10) − 3·16 = −6.
+    -- Were the limits moved one after the other (T4.7), limit 1 would in step 0 see limit 0 at 6: r_0 = −3, x_0 = 4,
+    -- g_1 = 5 and M_1 = 10, not 2.
     record {
       sheet =
           encode 2 2 2 3 3
-          (0 ∶ pos 1 ∷ 1 ∶ pos 2 ∷ 128 ∶ pos 4 ∷ 129 ∶ pos 5 ∷ 192 ∶ neg 1 ∷ 194 ∶ neg 3 ∷ 256 ∶ pos 1 ∷ 257 ∶ neg 1 ∷ 258 ∶ neg 1 ∷ []);
+          (0 ∶ pos 1 ∷ 1 ∶ pos 2 ∷ 128 ∶ pos 4 ∷ 129 ∶ pos 5 ∷ 192 ∶ neg 1 ∷ 194 ∶ neg 3
+          ∷ 256 ∶ pos 1 ∷ 257 ∶ neg 1 ∷ 258 ∶ neg 1 ∷ []);
       room = 54;
       answer = Plan (pos 16) (neg 6);
-      bytes = hex "0200 0200 0300 1000000000000000 faffffffffffffff 04000000 05000000 0a000000 04000000 0500000000000000 0200000000000000";
+      bytes =
+          hex "0200 0200 0300 1000000000000000 faffffffffffffff 04000000 05000000"
+          ++ hex "0a000000 04000000 0500000000000000 0200000000000000";
       listing = text "steps 3\nmat 0 4\nmat 1 5\nlim 0 10 5\nlim 1 4 2\nlow 16\ngap -6\n";
     } ∷
     -- More limits than materials, D = 10, k = 2: cost 1, most 10, x ≤ 5,000 and −2x ≤ −15. By hand:
-    -- step 0: M = 0, 0; weight 10; amount 0; misses −5,000, 15; value 0.
-    -- step 1: M = 0, 15; weight 10−30 = −20; amount 10; misses −4,990, −5; value 10·10 + 15·(−5) = 25.
-    -- Closing M = 0, 10; sum 10; overshoots −9,990, 10; low 25; gap 10·10 − 2·25 = 50.
+    -- step 0: M = 0, 0; r = 10; x = 0; g = −5,000, 15; V = 0.
+    -- step 1: M = 0, 15; r = 10−30 = −20; x = 10; g = −4,990, −5; V = 10·10 + 15·(−5) = 25.
+    -- Closing M = 0, 10; S = 10; G = −9,990, 10; low 25; gap 10·10 − 2·25 = 50.
     record {
-      sheet = encode 1 2 1 10 2 (0 ∶ pos 1 ∷ 128 ∶ pos 10 ∷ 192 ∶ pos 1 ∷ 193 ∶ pos 5000 ∷ 256 ∶ neg 2 ∷ 257 ∶ neg 15 ∷ []);
+      sheet =
+          encode 1 2 1 10 2
+          (0 ∶ pos 1 ∷ 128 ∶ pos 10 ∷ 192 ∶ pos 1 ∷ 193 ∶ pos 5000 ∷ 256 ∶ neg 2 ∷ 257 ∶ neg 15 ∷ []);
       room = 50;
       answer = Plan (pos 25) (pos 50);
-      bytes = hex "0100 0200 0200 1900000000000000 3200000000000000 0a000000 00000000 0a000000 fad8ffffffffffff 0a00000000000000";
+      bytes =
+          hex "0100 0200 0200 1900000000000000 3200000000000000 0a000000 00000000 0a000000"
+          ++ hex "fad8ffffffffffff 0a00000000000000";
       listing = text "steps 2\nmat 0 10\nlim 0 0 -9990\nlim 1 10 10\nlow 25\ngap 50\n";
     } ∷
     -- A negative cost: the greatest cost is −2·1, with the least amount, and not −2·3. Cost −2, from 1 to 3,
     -- x ≤ 2, k = 2. By hand:
-    -- step 0: M = 0; weight −2; amount 3; miss 1; value −6.
-    -- step 1: M = 1; weight −1; amount 3; miss 1; value −6 + 1 = −5, which −2 allows.
+    -- step 0: M = 0; r = −2; x = 3; g = 1; V = −6.
+    -- step 1: M = 1; r = −1; x = 3; g = 1; V = −6 + 1 = −5, which −2 allows.
     record {
       sheet = encode 1 1 1 1 2 (0 ∶ neg 2 ∷ 64 ∶ pos 1 ∷ 128 ∶ pos 3 ∷ 192 ∶ pos 1 ∷ 193 ∶ pos 2 ∷ []);
       room = 38;
@@ -222,4 +289,8 @@ steps =
 
 pub steps-hold : AllHold steps
 unfolding Holds AllHold
-steps-hold = ((refl, refl, refl, refl), ((refl, refl, refl, refl), ((refl, refl, refl, refl), tt)))
+steps-hold =
+    (refl, refl, refl, refl)
+    and (refl, refl, refl, refl)
+    and (refl, refl, refl, refl)
+    and tt

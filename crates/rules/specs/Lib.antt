@@ -1,4 +1,5 @@
--- Document 01 as definitions that compute. This is what a reader must believe; read it beside the paper, in this order:
+-- docs/TASK.md as definitions that compute. This is what a reader must believe; read it beside TASK.md, whose rules the
+-- comments name by anchor (T4.3), in this order:
 --   Notation   −n, the test for 0, the larger of two, finite sums, lists by their places
 --   Problem    materials, costs, bounds and limits; feasible points
 --   Bytes      little-endian numbers of a width
@@ -11,13 +12,13 @@
 --   Refusals   the numbers of the refusals, and refusals 1 to 7
 --   Answers    the answer to a sheet, and the lent buffer afterwards
 --   Listing    the text of an answer, and what writing it to lent bytes gives
---   Margins    the statement of demand 3
---   Promise    the three demands, as planning a sheet keeps them
+--   Margins    the statement of T9.3 to T9.7
+--   Promise    T9, as planning a sheet keeps it
 -- The rest holds these definitions against worked sheets:
 --   Rows       how a table of sheets is written
 --   Marked     C1 to C10
 --   Examples   the examples of the refusals, their order, the ends of the ranges, and steps worked by hand
---   Points     feasible points and points just outside; what demand 3 says in numbers; claims refuted
+--   Points     feasible points and points just outside; what T9.3 to T9.7 say in numbers; claims refuted
 -- Signs: `pos n` and `negsuc n` are the integers n and −(n + 1). `ltb leb eqb` test naturals for < ≤ =, and `ltZ leZ`
 -- integers for < ≤.
 -- `cond b x y` is x where the test b holds, else y. `getD s i d` is element i of the list s, or d past its end.

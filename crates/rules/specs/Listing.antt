@@ -1,4 +1,4 @@
--- Document 01, "Marked sheets": the listing, as batchplan prints it.
+-- TASK.md, T8: the listing, as batchplan prints it.
 use Prim.Native.Nat.{ℕ, zero, suc, _+_, _/_, _%_}
 use Prim.Native.Char.{code}
 use Prim.Native.String as String
@@ -26,7 +26,7 @@ digits zero v = []
 digits (suc d) zero = []
 digits (suc d) (suc v) = digits d (suc v / 10) ++ ((48 + suc v % 10) ∷ [])
 
--- a number in decimal: v has at most v digits; `negsuc v` is −(v + 1)
+-- T8.3, a number in decimal: v has at most v digits; `negsuc v` is −(v + 1)
 unfoldable pub decimal : ℤ → List ℕ
 decimal (pos zero) = text "0"
 decimal (pos (suc v)) = digits (suc v) (suc v)
@@ -37,7 +37,7 @@ unfoldable pub spaced : List ℤ → List ℕ
 spaced [] = []
 spaced (z ∷ zs) = text " " ++ decimal z ++ spaced zs
 
--- a line: a word, its numbers, and a newline
+-- T8.3, a line: a word, its numbers, and a newline
 unfoldable pub line : String.String → List ℤ → List ℕ
 line word zs = text word ++ spaced zs ++ text "\n"
 
@@ -46,7 +46,7 @@ unfoldable pub lines : ℕ → (ℕ → List ℕ) → List ℕ
 lines zero f = []
 lines (suc n) f = lines n f ++ f n
 
--- `mat` has the material and its sum; `lim` has the limit, closing multiplier and residual total
+-- T8.1, the lines of a plan
 unfoldable pub planText : Plan → List ℕ
 planText p =
     line "steps" (pos (p .steps) ∷ [])
@@ -55,7 +55,7 @@ planText p =
     ++ line "low" (p .low ∷ [])
     ++ line "gap" (p .gap ∷ [])
 
--- A refusal prints one line, `refused`, number, place.
+-- T8.2, the line of a refusal
 unfoldable pub refusalText : Numbered → List ℕ
 refusalText r = line "refused" (pos (r .number) ∷ pos (r .place) ∷ [])
 
@@ -77,7 +77,8 @@ textFrom (refused r) _ = refusalText r
 unfoldable pub fits : List ℕ → List ℕ → Bool
 fits t lent = leb (length t) (length lent)
 
--- What writing a text to lent bytes gives: the bytes afterwards, and the length of what was written. A text that is longer than they are is not written.
+-- T10.4, what writing a text to lent bytes gives: the bytes afterwards, and the length of what was written. A text that
+-- is longer than they are is not written.
 pub record Listed (t lent after : List ℕ) (result : ℕ) : Type 0 where
   pub bytes-are : after ≡ cond (fits t lent) (t ++ drop (length t) lent) lent
   pub length-is : result ≡ cond (fits t lent) (length t) 0

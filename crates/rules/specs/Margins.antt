@@ -1,5 +1,5 @@
--- Document 01, "What demand 3 speaks of": one claim about the answer to a sheet's bytes. This is the statement; the proof
--- is the crate `proof_margins`.
+-- TASK.md, T9.3 to T9.7: one claim of the answer to a sheet. This is the statement; the proof is the crate
+-- `proof_margins`.
 use mathlib.Core.Path.{_≡_}
 use mathlib.Core.List.{List}
 use Prim.Native.Nat.{ℕ, _<_}
@@ -16,20 +16,23 @@ square z = z *ℤ z
 
 -- The margins of the plan after k steps, with the printed low and gap.
 pub record PlanMargins (P : Problem) (k : ℕ) (low gap : ℤ) : Type 0 where
-  -- over every feasible point y/d: d·low ≤ D·cost of y, so that none costs less than low/D
+  -- T9.3, over every feasible point y/d: d·low ≤ D·cost of y, so that none costs less than low/D
   pub lower : (d : ℤ) (y : ℕ → ℤ) → Feasible P d y → (d *ℤ low) ≤ℤ (pos (P .scale) *ℤ costOf P y)
-  -- over every feasible point y/d: d·D·cost of the sums − k·D·cost of y ≤ d·gap
+  -- T9.4, over every feasible point y/d: d·D·cost of the sums − k·D·cost of y ≤ d·gap
   pub excess : (d : ℤ) (y : ℕ → ℤ) → Feasible P d y →
-      (d *ℤ (pos (P .scale) *ℤ costOf P (at (planAfter P k .sums))) -ℤ pos k *ℤ (pos (P .scale) *ℤ costOf P y)) ≤ℤ (d *ℤ gap)
-  -- for each limit i: p·residual total ≤ closing multiplier
+      (d *ℤ (pos (P .scale) *ℤ costOf P (at (planAfter P k .sums))) -ℤ pos k *ℤ (pos (P .scale) *ℤ costOf P y))
+      ≤ℤ (d *ℤ gap)
+  -- T9.5, for each limit i: p·residual total ≤ closing multiplier
   pub residualTotals : (i : ℕ) → i < P .limits →
       (pos (P .numerator) *ℤ at (planAfter P k .residualTotals) i) ≤ℤ at (planAfter P k .multipliers) i
-  -- 2·p·gap + Σ_i (closing multiplier)² ≤ p²·Σ_t Σ_i residual², over steps 0 to k−1
+  -- T9.6: 2·p·gap + Σ_i (closing multiplier)² ≤ p²·Σ_t Σ_i residual², over steps 0 to k−1
   pub squares :
       (pos 2 *ℤ pos (P .numerator) *ℤ gap +ℤ sumTo (P .limits) (λ i. square (at (planAfter P k .multipliers) i)))
-      ≤ℤ (square (pos (P .numerator)) *ℤ sumTo k (λ t. sumTo (P .limits) (λ i. square (at (lookAfter P t .residuals) i))))
+      ≤ℤ (square (pos (P .numerator))
+      *ℤ sumTo k (λ t. sumTo (P .limits) (λ i. square (at (lookAfter P t .residuals) i))))
 
--- Demand 3: a plan has its margins; and where the answer is refusal 9 ("no blend"), whatever its place, there is no feasible point.
+-- A plan has its margins; and T9.7: where the answer is refusal 9 ("no blend"), at whatever step, there is no feasible
+-- point. Nothing is said the other way round (T7.6).
 unfoldable pub Margins : List ℕ → Outcome → Type 0
 Margins s (plan low gap) = PlanMargins (problem (sheetOf s)) (sheetOf s .sizes .steps) low gap
 Margins s (refused r) = r .number ≡ 9 → NoneFeasible (problem (sheetOf s))

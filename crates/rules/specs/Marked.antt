@@ -1,4 +1,4 @@
--- Document 01, "Marked sheets": C1 to C10, one table, and one proof that it follows from the definitions.
+-- TASK.md, T11: C1 to C10, one table, and one proof that it follows from the definitions.
 use mathlib.Core.Path.{_≡_, refl}
 use Prim.Native.Nat.{ℕ}
 use mathlib.Core.List.{List, [], _∷_, _++_, map}
@@ -12,12 +12,12 @@ use Rattle.rules.specs.Encoder.{written}
 use Rattle.rules.specs.Step.{reducedCost, greatestCost, cheapestCost}
 use Rattle.rules.specs.Run.{stateAfter, lookAfter}
 use Rattle.rules.specs.Listing.{text}
-use Rattle.rules.specs.Rows.{Entry, _∶_, sized, entered, encode, hex, Row, Holds, AllHold}
+use Rattle.rules.specs.Rows.{Entry, _∶_, sized, entered, encode, hex, Row, Holds, AllHold, _and_}
 
 abbrev entries-C1 : List Entry
 entries-C1 = 0 ∶ pos 3 ∷ 1 ∶ pos 1 ∷ 128 ∶ pos 10 ∷ 129 ∶ pos 10 ∷ 192 ∶ neg 2 ∷ 193 ∶ neg 1 ∷ 194 ∶ neg 12 ∷ []
 
--- Multipliers go 0, 12, 14, 0, 12; step values are 0, 104, 68, 0. Step 1 has a tie at material 0.
+-- T11.1 goes through its steps
 abbrev pub C1 : Row
 C1 = record {
   sheet = encode 2 1 1 8 4 entries-C1;
@@ -40,7 +40,7 @@ C2 = record {
 abbrev entries-C3 : List Entry
 entries-C3 = 0 ∶ pos 1 ∷ 128 ∶ pos 1 ∷ 192 ∶ neg 1 ∷ 193 ∶ neg 5 ∷ []
 
--- refused 9 at 1: step value 21, greatest cost 1
+-- refused 9 at 1: the dual value is 21, the greatest cost 1
 abbrev pub C3 : Row
 C3 = record {
   sheet = encode 1 1 1 1 2 entries-C3;
@@ -120,14 +120,25 @@ C10 = record {
   listing = text "refused 7 0\n";
 }
 
--- C1 to C10
+-- T11.2, C1 to C10
 abbrev pub table : List Row
 table = C1 ∷ C2 ∷ C3 ∷ C4 ∷ C5 ∷ C6 ∷ C7 ∷ C8 ∷ C9 ∷ C10 ∷ []
 
 -- They follow from the definitions.
 pub marked : AllHold table
 unfolding Holds AllHold
-marked = ((refl, refl, refl, refl), ((refl, refl, refl, refl), ((refl, refl, refl, refl), ((refl, refl, refl, refl), ((refl, refl, refl, refl), ((refl, refl, refl, refl), ((refl, refl, refl, refl), ((refl, refl, refl, refl), ((refl, refl, refl, refl), ((refl, refl, refl, refl), tt))))))))))
+marked =
+    (refl, refl, refl, refl)
+    and (refl, refl, refl, refl)
+    and (refl, refl, refl, refl)
+    and (refl, refl, refl, refl)
+    and (refl, refl, refl, refl)
+    and (refl, refl, refl, refl)
+    and (refl, refl, refl, refl)
+    and (refl, refl, refl, refl)
+    and (refl, refl, refl, refl)
+    and (refl, refl, refl, refl)
+    and tt
 
 -- ---- their bytes: the six sizes, the keys, the values
 abbrev pub sheets : List (List ℕ)
@@ -167,16 +178,19 @@ pub encoded :
 unfolding Holds
 encoded = refl
 
--- ---- what document 01 says of the steps of C1 and C3
+-- ---- what T11 says of the steps of C1 and C3
 
 abbrev problem-C1 : Problem
 problem-C1 = problem (sheetOf (C1 .sheet))
 
-pub multipliers-C1 : map (λ t. at (stateAfter problem-C1 t .multipliers) 0) (0 ∷ 1 ∷ 2 ∷ 3 ∷ 4 ∷ []) ≡ pos 0 ∷ pos 12 ∷ pos 14 ∷ pos 0 ∷ pos 12 ∷ []
+pub multipliers-C1 :
+    map (λ t. at (stateAfter problem-C1 t .multipliers) 0) (0 ∷ 1 ∷ 2 ∷ 3 ∷ 4 ∷ [])
+    ≡ pos 0 ∷ pos 12 ∷ pos 14 ∷ pos 0 ∷ pos 12 ∷ []
 unfolding Holds
 multipliers-C1 = refl
 
-pub values-C1 : map (λ t. lookAfter problem-C1 t .dualValue) (0 ∷ 1 ∷ 2 ∷ 3 ∷ []) ≡ pos 0 ∷ pos 104 ∷ pos 68 ∷ pos 0 ∷ []
+pub values-C1 :
+    map (λ t. lookAfter problem-C1 t .dualValue) (0 ∷ 1 ∷ 2 ∷ 3 ∷ []) ≡ pos 0 ∷ pos 104 ∷ pos 68 ∷ pos 0 ∷ []
 unfolding Holds
 values-C1 = refl
 

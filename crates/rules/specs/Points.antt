@@ -1,6 +1,6 @@
 -- Points held against the statements of Problem and Margins, by computing with the definitions and with no theorem:
--- points that are feasible, points that miss it by one unit in one clause, what each claim of demand 3 says in numbers
--- of any low and gap, claims that a point refutes, and claims that hold. That all hold is proved in the crate
+-- points that are feasible, points that miss it by one unit in one clause, what each claim of T9.3 to T9.7 says in
+-- numbers of any low and gap, claims that a point refutes, and claims that hold. That all hold is proved in the crate
 -- `proof_margins`.
 use mathlib.Core.Path.{_≡_, refl}
 use mathlib.Core.List.{List, [], _∷_}
@@ -232,9 +232,9 @@ unfolding Holds
 squares-C2 claim = claim .le
 
 -- ---- A sheet with p above 1 and a gap that is not 0: p = 4, D = 6, k = 2; cost 1, most 2, −2·x ≤ −3. By hand:
--- step 0: M = 0; weight 6; amount 0; miss 3; value 0.
--- step 1: M = 12; weight 6 − 24 = −18; amount 2; miss −1; value 12 − 12 = 0.
--- Closing M = 12 − 4 = 8; sum 2; overshoot 2; low 0; gap 6·2 − 2·0 = 12.
+-- step 0: M = 0; r = 6; x = 0; g = 3; V = 0.
+-- step 1: M = 12; r = 6 − 24 = −18; x = 2; g = −1; V = 12 − 12 = 0.
+-- Closing M = 12 − 4 = 8; S = 2; G = 2; low 0; gap 6·2 − 2·0 = 12.
 -- The residual claim is 4·2 ≤ 8, and the squares claim 2·4·12 + 8² ≤ 4²·(3² + 1²): 160 on both sides.
 abbrev pub S₄ : List ℕ
 S₄ = encode 1 1 4 6 2 (0 ∶ pos 1 ∷ 128 ∶ pos 2 ∷ 192 ∶ neg 2 ∷ 193 ∶ neg 3 ∷ [])

@@ -1,11 +1,11 @@
--- Document 01, "The planner's task": materials at a cost within bounds, the limits on them, and the recipes that keep
--- both.
+-- TASK.md, T1: materials at a cost within bounds, the limits on them, and the recipes that keep both. All figures are
+-- whole numbers (T1.1).
 use Prim.Native.Nat.{ℕ, _<_}
 use lib.IntN.{ℤ, pos, _*ℤ_}
 use lib.Signed.{_≤ℤ_, _<ℤ_}
 use Rattle.rules.specs.Notation.{sumTo}
 
--- n materials and m limits, the step length p/D, and the figures of material j and limit i
+-- T1.2, T1.3: n materials and m limits, the step length p/D (T2.3), and the figures of material j and limit i
 pub record Problem : Type 0 where
   -- n
   pub materials : ℕ
@@ -27,16 +27,16 @@ pub record Problem : Type 0 where
   pub rhs : ℕ → ℤ
 
 module _ (P : Problem) where
-  -- the cost of amounts x: Σ_j c_j·x_j
+  -- T1.4, the cost of amounts x: Σ_j c_j·x_j
   unfoldable pub costOf : (ℕ → ℤ) → ℤ
   costOf x = sumTo (P .materials) (λ j. P .cost j *ℤ x j)
 
-  -- what limit i keeps at b_i or below: Σ_j a_ij·x_j
+  -- T1.3, what limit i keeps at b_i or below: Σ_j a_ij·x_j
   unfoldable pub loadOf : (ℕ → ℤ) → ℕ → ℤ
   loadOf x i = sumTo (P .materials) (λ j. P .coefficient i j *ℤ x j)
 
--- A feasible point ("lawful recipe"): whole amounts y over the positive divisor d, with l_j ≤ y_j/d ≤ u_j and
--- Σ_j a_ij·y_j/d ≤ b_i, multiplied out.
+-- T1.4, T1.5, a feasible recipe ("lawful"), here a feasible point: whole numbers y over the divisor d, with
+-- l_j ≤ y_j/d ≤ u_j and Σ_j a_ij·y_j/d ≤ b_i, multiplied out.
 pub record Feasible (P : Problem) (d : ℤ) (y : ℕ → ℤ) : Type 0 where
   pub divisor : pos 0 <ℤ d
   pub above : (j : ℕ) → j < P .materials → (d *ℤ P .least j) ≤ℤ y j

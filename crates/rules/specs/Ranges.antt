@@ -1,4 +1,4 @@
--- Document 01, "The batch sheet": the table of ranges, and the ranges of the sizes.
+-- TASK.md, T3.2 and T2.6: the table of ranges, and the ranges of the sizes.
 use Prim.Native.Nat.{ℕ, zero, suc, _+_, _*_}
 use mathlib.Core.Bool.{Bool, cond, _&&_}
 use mathlib.Core.List.{List, [], _∷_}
@@ -18,18 +18,18 @@ infix 70 _from_to_
 abbrev pub _from_to_ : Kind → ℤ → ℤ → Range
 kind from least to greatest = record { kind = kind; least = least; greatest = greatest }
 
--- The table of ranges.
+-- T3.2, the table of ranges.
 unfoldable pub ranges : List Range
 ranges =
-    -- row 0: cost
+    -- row 0: c_j
     Cost from neg 10000 to pos 10000 ∷
-    -- row 1: least amount
+    -- row 1: l_j
     Least from pos 1 to pos 1000 ∷
-    -- row 2: most amount
+    -- row 2: u_j
     Most from pos 1 to pos 1000 ∷
-    -- rows 3 to m+2, columns 0 to n−1: a of limit row−3
+    -- row 3 + i, column j below n: a_ij
     Coefficient from neg 1000 to pos 1000 ∷
-    -- rows 3 to m+2, column n: b of limit row−3
+    -- row 3 + i, column n: b_i
     Rhs from neg 32000000 to pos 32000000 ∷
     []
 
@@ -45,7 +45,7 @@ indexOf Rhs = 4
 unfoldable pub rangeOf : Kind → Range
 rangeOf kind = getD ranges (indexOf kind) (Cost from pos 0 to pos 0)
 
--- the row decides what a figure is: the kind at a row and a column
+-- T3.2, the kind of figure at a row and a column
 unfoldable pub kindAt : Shape → ℕ → ℕ → Kind
 kindAt shape zero column = Cost
 kindAt shape (suc zero) column = Least
@@ -60,21 +60,21 @@ inRange r v = leZ (r .least) v && leZ v (r .greatest)
 unfoldable pub between : ℕ → ℕ → ℕ → Bool
 between least greatest x = leb least x && leb x greatest
 
--- the most entries that n and m allow: n(m+3)+m
+-- T2.6, the most entries that n and m allow: n(m+3)+m
 abbrev pub mostEntries : Shape → ℕ
 mostEntries shape = shape .materials * (shape .limits + 3) + shape .limits
 
--- the largest shape
+-- T2.6, the largest shape
 abbrev pub largest : Shape
 largest = record { materials = 32; limits = 16 }
 
--- n is 1 to 32, m is 0 to 16, e is at most n(m+3)+m
+-- T2.6, are n, m and e in their ranges?
 unfoldable pub dimensionsInRange : Shape → ℕ → Bool
 dimensionsInRange shape e =
     between 1 (largest .materials) (shape .materials)
     && between 0 (largest .limits) (shape .limits)
     && between 0 (mostEntries shape) e
 
--- p and D are 1 to 1,024; k is 1 to 4,096
+-- T2.6, are p, D and k in their ranges?
 unfoldable pub parametersInRange : Sizes → Bool
 parametersInRange z = between 1 1024 (z .numerator) && between 1 1024 (z .scale) && between 1 4096 (z .steps)

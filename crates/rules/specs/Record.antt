@@ -1,4 +1,4 @@
--- Document 01, "The record": the bytes of a plan, and the plan that such bytes hold.
+-- TASK.md, T6: the bytes of a plan, and the plan that such bytes hold.
 use Prim.Native.Nat.{ℕ, _+_, _*_}
 use mathlib.Core.Bool.{Bool, _&&_}
 use mathlib.Core.List.{List, _++_}
@@ -14,7 +14,7 @@ use Rattle.rules.specs.Run.{Plan}
 abbrev pub fields : ℕ → List ℤ → List ℕ
 fields w zs = laid (signedBytes w) zs
 
--- n, m and k; low and gap; the sums; the multipliers and the residual totals
+-- T6.1: n, m and k; low and gap; the sums; the multipliers and the residual totals
 unfoldable pub recordOf : Plan → List ℕ
 recordOf p =
     unsignedBytes 2 (p .materials)
@@ -26,7 +26,7 @@ recordOf p =
     ++ fields 4 (p .multipliers)
     ++ fields 8 (p .residualTotals)
 
--- ---- where a record has its fields, with n materials and m limits: each begins where the one before ends
+-- ---- T6.1, where a record has its fields, with n materials and m limits: each begins where the one before ends
 abbrev pub limitsAt : ℕ
 limitsAt = 2
 
@@ -48,11 +48,11 @@ multipliersAt n = sumsAt + 4 * n
 abbrev pub totalsAt : ℕ → ℕ → ℕ
 totalsAt n m = multipliersAt n + 4 * m
 
--- the length of a record
+-- T6.2, the length of a record
 unfoldable pub recordLength : ℕ → ℕ → ℕ
 recordLength n m = totalsAt n m + 8 * m
 
--- the length of the longest: as many materials and limits as a sheet may have
+-- T6.2, the length of the longest: as many materials and limits as a sheet may have
 abbrev pub longestRecord : ℕ
 longestRecord = recordLength (largest .materials) (largest .limits)
 

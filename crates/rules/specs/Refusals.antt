@@ -1,4 +1,4 @@
--- Document 01, "When a sheet is turned back": the numbers of the refusals, and refusals 1 to 7.
+-- TASK.md, T7: the numbers of the refusals, and refusals 1 to 7.
 use Prim.Native.Nat.{ℕ, zero, suc, _+_}
 use mathlib.Core.Bool.{Bool, true, false, not, _&&_, _||_}
 use mathlib.Core.List.{List}
@@ -8,7 +8,8 @@ use lib.IntN.{ℤ}
 use lib.Signed.{ltZ}
 use lib.Dec.{ltb, leb, eqb}
 use Rattle.rules.specs.declared.Cause.{Cause}
-use Rattle.rules.specs.declared.Cause.the-variants.{Short, Dimensions, Length, Parameters, Key, Value, Bounds, Buffer, Infeasible, Diverged}
+use Rattle.rules.specs.declared.Cause.the-variants.{Short, Dimensions, Length, Parameters, Key, Value, Bounds}
+use Rattle.rules.specs.declared.Cause.the-variants.{Buffer, Infeasible, Diverged}
 use Rattle.rules.specs.declared.Refusal.{Refusal}
 use Rattle.rules.specs.declared.Verdict.{Verdict}
 use Rattle.rules.specs.declared.Shape.{Shape}
@@ -16,12 +17,12 @@ use Rattle.rules.specs.Notation.{isZero}
 use Rattle.rules.specs.Sheet.{Sheet, headerLength, sheetLength, sheetOf, Table, keyOf, rowOf, columnOf, tableOf}
 use Rattle.rules.specs.Ranges.{rangeOf, kindAt, inRange, dimensionsInRange, parametersInRange}
 
--- A refusal as document 01 gives it: its number and its place.
+-- T7.1, a refusal: its number and its place.
 pub record Numbered : Type 0 where
   pub number : ℕ
   pub place : ℕ
 
--- the number of each cause
+-- T7.4, the number of each cause
 unfoldable pub numberOf : Cause → ℕ
 numberOf Short = 1
 numberOf Dimensions = 2
@@ -43,12 +44,12 @@ unfoldable pub refusalOf : Verdict → Option Numbered
 refusalOf Verdict.Passed = none
 refusalOf (Verdict.Refused r) = some (numbered r)
 
--- a row of the table: the number, the place, and when it is given
+-- T7.4, a row of the table: the number, the place, and when it is given
 unfoldable pub refuse : ℕ → ℕ → Bool → Option Numbered
 refuse number place true = some (record { number = number; place = place })
 refuse number place false = none
 
--- the first of two that is given
+-- T7.3, the first of two that is given
 infixr 20 _otherwise_
 unfoldable pub _otherwise_ : Option Numbered → Option Numbered → Option Numbered
 none otherwise b = b
@@ -59,13 +60,13 @@ unfoldable pub firstBelow : ℕ → (ℕ → Option Numbered) → Option Numbere
 firstBelow zero test = none
 firstBelow (suc n) test = firstBelow n test otherwise test n
 
--- does no figure stand at a row and a column? Row above m+2, column above n, or column n in rows 0 to 2
+-- T3.2, does no figure stand at a row and a column? Only a limit's row has column n
 unfoldable pub noFigureAt : Shape → ℕ → ℕ → Bool
 noFigureAt shape row column =
     let n = shape .materials in
     ltb (shape .limits + 2) row || ltb n column || (eqb column n && leb row 2)
 
--- is a value bad under its key: 0, or outside its range?
+-- T3.2, T3.3: is a value bad under its key, 0 or outside its range?
 unfoldable pub valueBad : Shape → ℕ → ℤ → Bool
 valueBad shape key value = isZero value || not (inRange (rangeOf (kindAt shape (rowOf key) (columnOf key))) value)
 
@@ -75,20 +76,20 @@ crossed T j = ltZ (T (keyOf 2 j)) (T (keyOf 1 j))
 
 -- Of a sheet that has been read:
 module _ (S : Sheet) where
-  -- is the key of entry i not above the one before?
+  -- T3.4, is the key of entry i not above the one before?
   unfoldable pub notAbove : ℕ → Bool
   notAbove zero = false
   notAbove (suc i) = leb (S .key (suc i)) (S .key i)
 
-  -- refusal 5: row above m+2, column above n, column n in rows 0 to 2, or key not above the one before
+  -- T7.4, refusal 5: a key that names no figure, or is not above the one before
   unfoldable pub badKey : ℕ → Bool
   badKey i = noFigureAt (S .sizes .shape) (rowOf (S .key i)) (columnOf (S .key i)) || notAbove i
 
-  -- refusal 6: value 0 or outside its range
+  -- T7.4, refusal 6: a value that is bad under its key
   unfoldable pub badValue : ℕ → Bool
   badValue i = valueBad (S .sizes .shape) (S .key i) (S .value i)
 
-  -- refusals 2 to 4, of a sheet that has so many bytes
+  -- T7.4, refusals 2 to 4, of a sheet that has so many bytes
   unfoldable pub sizesRefusal : ℕ → Option Numbered
   sizesRefusal bytes =
       refuse 2 0 (not (dimensionsInRange (S .sizes .shape) (S .entries)))
@@ -107,8 +108,8 @@ module _ (S : Sheet) where
   unfoldable pub boundRefusal : Option Numbered
   boundRefusal = firstBelow (S .sizes .shape .materials) (λ j. refuse 7 j (crossed (tableOf S) j))
 
--- Refusals 1 to 7 of a sheet's bytes, in rising order, each over the whole sheet. A sheet follows the layout exactly
--- when there is none.
+-- T7.3, refusals 1 to 7 of a sheet's bytes by number, each tested over all of it before the next. T7.5: a sheet is read
+-- where there is none.
 unfoldable pub layoutRefusal : List ℕ → Option Numbered
 layoutRefusal s =
     let S = sheetOf s in

@@ -14,13 +14,19 @@ use Rattle.rules.specs.Problem.{costOf, loadOf}
 use Rattle.rules.specs.Bytes.{unsignedAt, signedOf, signedAt, unsignedBytes, signedBytes, laid}
 use Rattle.rules.specs.Sheet.{headerLength, Table, valueUnder, problemFrom}
 use Rattle.rules.specs.Encoder.{laidOut, sizesWith, picked, keysOf, written}
-use Rattle.rules.specs.Ranges.{ranges, indexOf, rangeOf, kindAt, inRange, between, dimensionsInRange, parametersInRange}
-use Rattle.rules.specs.Step.{anyBelow, reducedCost, amount, residual, dualValue, lookAt, greatestCost, cheapestCost, infeasible, moved, next, diverged}
+use Rattle.rules.specs.Ranges.{ranges, indexOf, rangeOf, kindAt, inRange, between, dimensionsInRange}
+use Rattle.rules.specs.Ranges.{parametersInRange}
+use Rattle.rules.specs.Step.{anyBelow, reducedCost, amount, residual, dualValue, lookAt, greatestCost}
+use Rattle.rules.specs.Step.{cheapestCost, infeasible, moved, next, diverged}
 use Rattle.rules.specs.Run.{startingMultiplier, start, stateAfter, lookAfter, lowAfter, gapOf, planAfter}
 use Rattle.rules.specs.Record.{recordOf, recordLength, recorded, holdsRecord}
-use Rattle.rules.specs.Refusals.{numberOf, numbered, refuse, _otherwise_, firstBelow, noFigureAt, notAbove, badKey, valueBad, badValue, crossed, sizesRefusal, keyRefusal, valueRefusal, boundRefusal, layoutRefusal}
-use Rattle.rules.specs.Answers.{outcome, refusalAt, stepRefusal, planRefusal, outcomeOf, planOf, refusal, answerTo, answer, bufferOf, bufferAfter}
-use Rattle.rules.specs.Listing.{text, digits, decimal, spaced, line, lines, planText, refusalText, textOf, listing, textFrom}
+use Rattle.rules.specs.Refusals.{numberOf, numbered, refuse, _otherwise_, firstBelow, noFigureAt, notAbove}
+use Rattle.rules.specs.Refusals.{badKey, valueBad, badValue, crossed, sizesRefusal, keyRefusal, valueRefusal}
+use Rattle.rules.specs.Refusals.{boundRefusal, layoutRefusal}
+use Rattle.rules.specs.Answers.{outcome, refusalAt, stepRefusal, planRefusal, outcomeOf, planOf, refusal}
+use Rattle.rules.specs.Answers.{answerTo, answer, bufferOf, bufferAfter}
+use Rattle.rules.specs.Listing.{text, digits, decimal, spaced, line, lines, planText, refusalText, textOf}
+use Rattle.rules.specs.Listing.{listing, textFrom}
 
 -- ---- how a row is written
 
@@ -89,7 +95,15 @@ after r = r .bytes ++ drop (length (r .bytes)) (lent (r .room))
 -- What the definitions give is what the row says: the answer, the buffer afterwards, the listing, and the listing out
 -- of that answer and that buffer. Whoever unfolds it computes with them all.
 unfoldable pub Holds : Row → Type 0
-unfolding headerLength isZero laid laidOut picked keysOf written entered nibble unspaced pairs outcome numbered numberOf maxℤ sumTo tabulate costOf loadOf unsignedAt signedOf signedAt unsignedBytes signedBytes valueUnder problemFrom ranges indexOf rangeOf kindAt inRange between dimensionsInRange parametersInRange anyBelow reducedCost amount residual dualValue lookAt greatestCost cheapestCost infeasible moved next diverged startingMultiplier start stateAfter lookAfter lowAfter gapOf planAfter recordOf recordLength recorded holdsRecord refuse _otherwise_ firstBelow noFigureAt notAbove badKey valueBad badValue crossed sizesRefusal keyRefusal valueRefusal boundRefusal layoutRefusal refusalAt stepRefusal planRefusal outcomeOf planOf refusal answerTo answer bufferOf bufferAfter text digits decimal spaced line lines planText refusalText textOf listing textFrom
+unfolding
+    headerLength isZero laid laidOut picked keysOf written entered nibble unspaced pairs outcome numbered numberOf maxℤ
+    sumTo tabulate costOf loadOf unsignedAt signedOf signedAt unsignedBytes signedBytes valueUnder problemFrom ranges
+    indexOf rangeOf kindAt inRange between dimensionsInRange parametersInRange anyBelow reducedCost amount residual
+    dualValue lookAt greatestCost cheapestCost infeasible moved next diverged startingMultiplier start stateAfter
+    lookAfter lowAfter gapOf planAfter recordOf recordLength recorded holdsRecord refuse _otherwise_ firstBelow
+    noFigureAt notAbove badKey valueBad badValue crossed sizesRefusal keyRefusal valueRefusal boundRefusal layoutRefusal
+    refusalAt stepRefusal planRefusal outcomeOf planOf refusal answerTo answer bufferOf bufferAfter text digits decimal
+    spaced line lines planText refusalText textOf listing textFrom
 Holds r =
     (answer (r .sheet) (r .room) ≡ outcome (r .answer)) ×
     (bufferAfter (r .sheet) (lent (r .room)) ≡ after r) ×
@@ -100,3 +114,8 @@ Holds r =
 unfoldable pub AllHold : List Row → Type 0
 AllHold [] = Unit {0}
 AllHold (r ∷ rs) = Holds r × AllHold rs
+
+-- the two of a product: a row that holds, and those after it
+infixr 20 _and_
+abbrev pub _and_ : {A B : Type 0} → A → B → A × B
+a and b = (a, b)

@@ -1,4 +1,4 @@
--- Document 01, "One step": the run of k steps from multipliers of 0, and the plan that it gives.
+-- TASK.md, T5: the run of k steps from multipliers of 0, and the plan that it gives.
 use Prim.Native.Nat.{ℕ, zero, suc}
 use mathlib.Core.List.{List}
 use lib.IntN.{ℤ, pos, _-ℤ_, _*ℤ_}
@@ -14,21 +14,24 @@ pub record Plan : Type 0 where
   pub limits : ℕ
   -- k
   pub steps : ℕ
+  -- T5.3
   pub low : ℤ
+  -- T5.4
   pub gap : ℤ
-  -- sum j
+  -- T5.1, S_j
   pub sums : List ℤ
-  -- the closing multipliers: M_i after the last step
+  -- T5.5, the closing multipliers M_i
   pub multipliers : List ℤ
-  -- overshoot i
+  -- T5.2, G_i
   pub residualTotals : List ℤ
 
 module _ (P : Problem) where
-  -- multipliers start at 0
+  -- T4.1, multipliers start at 0
   unfoldable pub startingMultiplier : ℕ → ℤ
   startingMultiplier i = pos 0
 
-  -- The state before any step. Its lower bound is the dual value of step 0, so that after k steps it is the largest of steps 0 to k−1.
+  -- The state before any step. Its lower bound is the dual value of step 0, which step 0 then takes: so the first step
+  -- is like any other.
   unfoldable pub start : State
   start = record {
     multipliers = tabulate (P .limits) startingMultiplier;
@@ -46,15 +49,15 @@ module _ (P : Problem) where
   unfoldable pub lookAfter : ℕ → Look
   lookAfter t = lookAt P (at (stateAfter t .multipliers))
 
-  -- low after k steps: the largest dual value of steps 0 to k−1
+  -- T5.3, low after k steps: the largest of their dual values
   unfoldable pub lowAfter : ℕ → ℤ
   lowAfter k = stateAfter k .lowerBound
 
-  -- gap of a count of steps, a low and sums: D times the cost of the sums, less the count × low
+  -- T5.4, gap of a count of steps, a low and sums: D·cost of the sums − count·low
   unfoldable pub gapOf : ℕ → ℤ → (ℕ → ℤ) → ℤ
   gapOf count low sums = pos (P .scale) *ℤ costOf P sums -ℤ pos count *ℤ low
 
-  -- the plan after k steps
+  -- T5.1 to T5.5, the plan after k steps
   unfoldable pub planAfter : ℕ → Plan
   planAfter k =
       let w = stateAfter k in

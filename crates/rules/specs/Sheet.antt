@@ -1,5 +1,5 @@
--- Document 01, "The batch sheet": a sheet is sizes and a table of figures by key. Here from bytes to the figures;
--- Encoder has the way back.
+-- TASK.md, T2 and T3: a sheet is sizes and a table of figures by key. Here from bytes to the figures; Encoder has the
+-- way back.
 use Prim.Native.Nat.{ℕ, zero, suc, _+_, _*_, _/_, _%_}
 use mathlib.Core.Bool.{cond}
 use mathlib.Core.List.{List}
@@ -11,29 +11,29 @@ use Rattle.rules.specs.Problem.{Problem}
 
 -- ---- the layout of the bytes
 
--- how long the header is: the six sizes come first, 2 bytes each
+-- T2.2, how long the header is: six sizes of 2 bytes
 unfoldable pub headerLength : ℕ
 headerLength = 2 * 6
 
--- size i of a sheet's bytes
+-- T2.2, size i of a sheet's bytes
 abbrev pub sizeAt : List ℕ → ℕ → ℕ
 sizeAt s i = unsignedAt 2 s (2 * i)
 
--- where key i stands: e keys of 2 bytes follow the header
+-- T2.4, where key i stands: keys of 2 bytes follow the header
 abbrev pub keyAt : ℕ → ℕ
 keyAt i = headerLength + 2 * i
 
--- where value i of e stands: e values of 4 bytes follow the keys
+-- T2.4, where value i of e stands: values of 4 bytes follow the keys
 abbrev pub valueAt : ℕ → ℕ → ℕ
 valueAt e i = keyAt e + 4 * i
 
--- the length of a sheet of e entries: it ends after its values
+-- T2.5, the length of a sheet of e entries: it ends after its values
 abbrev pub sheetLength : ℕ → ℕ
 sheetLength e = valueAt e e
 
 -- ---- a sheet that has been read
 
--- The sizes n, m, p, D and k; e; and two parallel arrays: entry i has key i and value i.
+-- T2.3, T2.4: the sizes n, m, p, D and k; e; and the entries, of which entry i has key i and value i.
 pub record Sheet : Type 0 where
   pub sizes : Sizes
   -- e
@@ -41,7 +41,7 @@ pub record Sheet : Type 0 where
   pub key : ℕ → ℕ
   pub value : ℕ → ℤ
 
--- The sizes are n, m, e, p, D and k, in this order.
+-- T2.2: the sizes are n, m, e, p, D and k, in this order.
 abbrev pub sheetOf : List ℕ → Sheet
 sheetOf s =
     record {
@@ -58,7 +58,7 @@ sheetOf s =
 
 -- ---- figures by key
 
--- a key is row × 64 + column
+-- T3.1, the key of a row and a column
 abbrev pub keyOf : ℕ → ℕ → ℕ
 keyOf row column = row * 64 + column
 
@@ -78,11 +78,11 @@ module _ (S : Sheet) where
   valueUnder zero key = pos 0
   valueUnder (suc e) key = cond (eqb (S .key e) key) (S .value e) (valueUnder e key)
 
-  -- the table of a sheet: a figure that has no entry is 0
+  -- T3.3, the table of a sheet: 0 where a key has no entry
   abbrev pub tableOf : Table
   tableOf = valueUnder (S .entries)
 
--- the figures of a table by material and limit: the row decides what a figure means
+-- T3.2, the figures of a table by material and limit
 unfoldable pub problemFrom : Sizes → Table → Problem
 problemFrom z T =
     let n = z .shape .materials in

@@ -1,6 +1,6 @@
 // The types that the definitions of specs/ and the code above share. What they mean is said in specs/.
 
-// Why a sheet is turned back, in the order of document 01's table of refusals.
+// Why a sheet is refused, in the order of the table of refusals (TASK.md, T7.4).
 // `numberOf` of specs/Refusals.antt gives each its number there.
 pub enum Cause {
     Short,
@@ -27,7 +27,7 @@ pub enum Verdict {
     Refused(Refusal),
 }
 
-// The answer to a sheet: a plan's two figures, or a refusal.
+// The answer to a sheet: the low and the gap of a plan, or a refusal.
 pub enum Answer {
     Plan { low: i64, gap: i64 },
     Refused(Refusal),
@@ -47,7 +47,7 @@ pub struct Sizes {
     pub steps: usize,
 }
 
-// What a figure of the sheet is, in the order of document 01's table of ranges.
+// What a figure of the sheet is, in the order of the table of ranges (TASK.md, T3.2).
 pub enum Kind {
     Cost,
     Least,
