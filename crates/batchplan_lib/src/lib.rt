@@ -6,12 +6,16 @@ ghost use lib.ListN.{length};
 ghost use Rattle.rules.specs.Record.{longestRecord};
 ghost use Rattle.rules.specs.Answers.{outcome};
 ghost use Rattle.rules.specs.Listing.{listing, Listed};
+ghost use Rattle.rules.specs.Version.{version};
 ghost use Rattle.batchplan_lib.specs.Called.{numbersOf, Called};
 use out_layout::LONGEST;
 use out_listing::write_listing;
 use out_refusals::number_of;
 use planner::plan;
 use rules::Answer;
+
+// The version of the rules that this library follows.
+const VERSION: usize = 1;
 
 // An answer in plain numbers.
 pub struct Numbers {
@@ -45,8 +49,8 @@ fn numbers_of(answer: Answer) -> Numbers
     }
 }
 
-// Plans a sheet: any bytes, into any buffer. It answers 0 for a plan, with its low and gap and its record at the start
-// of the buffer, and else document 01's number of the refusal, with its place and the buffer as it was.
+// Plans a sheet (TASK.md, T10.3): any bytes, into any buffer. It answers 0 for a plan, with its low and gap and its
+// record at the start of the buffer, and else the number of the refusal, with its place and the buffer as it was.
 #[no_mangle]
 pub extern "C" fn batchplan_plan(
     sheet: &[u8],
@@ -68,9 +72,9 @@ pub extern "C" fn batchplan_plan(
     numbers.number
 }
 
-// Plans a sheet, any bytes, and writes its listing to the start of `text`. It answers the listing's length. Where the
-// listing is longer than `text`, nothing is written and the answer is 0; a listing has at most 4,096 bytes. The buffer
-// takes every record, so that refusal 8 is never listed.
+// Plans a sheet, any bytes, and writes its listing to the start of `text` (TASK.md, T10.4). It answers the listing's
+// length. Where the listing is longer than `text`, nothing is written and the answer is 0; a listing has at most 4,096
+// bytes (T8.4). The buffer takes every record, so that refusal 8 is never listed (T10.2).
 #[no_mangle]
 pub extern "C" fn batchplan_listing(sheet: &[u8], text: &mut [u8]) -> usize
     ensures { λ r. ⌜ Listed (listing (now (sheet .entry)) longestRecord) (now (text .entry)) (now (text .exit)) r ⌝ }
@@ -79,4 +83,12 @@ pub extern "C" fn batchplan_listing(sheet: &[u8], text: &mut [u8]) -> usize
     let mut record = [0u8; LONGEST];
     let answer = plan(sheet, &mut record);
     write_listing(answer, &record, text)
+}
+
+// The version of the rules, by which a caller can tell a library that it was not written for (TASK.md, T10.5).
+#[no_mangle]
+pub extern "C" fn batchplan_version() -> usize
+    ensures { λ r. ⌜ r ≡ version ⌝ }
+{
+    VERSION
 }

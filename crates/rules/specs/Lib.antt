@@ -14,6 +14,7 @@
 --   Listing    the text of an answer, and what writing it to lent bytes gives
 --   Margins    the statement of T9.3 to T9.7
 --   Promise    T9, as planning a sheet keeps it
+--   Version    the number that a caller can ask for
 -- The rest holds these definitions against worked sheets:
 --   Rows       how a table of sheets is written
 --   Marked     C1 to C10
@@ -36,6 +37,7 @@ pub mod Answers
 pub mod Listing
 pub mod Margins
 pub mod Promise
+pub mod Version
 pub mod Rows
 pub mod Marked
 pub mod Examples
