@@ -5,7 +5,7 @@
  *
  * To compile, after `rt staticlib batchplan_lib`:
  *
- *     gcc -std=c99 -Wall -Wextra -Werror -Ilibrary/include library/example.c -Ltarget/staticlib -lbatchplan_lib -o example
+ *     gcc -std=c99 -Wall -Ilibrary/include library/example.c -Ltarget/staticlib -lbatchplan_lib -o example
  */
 #include <inttypes.h>
 #include <stdio.h>
@@ -24,7 +24,7 @@ static uint32_t sum_at(const uint8_t *bytes)
     return bytes[0] | (uint32_t)bytes[1] << 8 | (uint32_t)bytes[2] << 16 | (uint32_t)bytes[3] << 24;
 }
 
-/* Reads a sheet. One byte more than the longest is enough to tell that a sheet is too long. Gives 0 where it cannot be read. */
+/* Reads a sheet, or its first bytes where it is longer than any that is read. Gives 0 where it cannot be read. */
 static int read_sheet(const char *name, uint8_t *sheet, size_t room, size_t *length)
 {
     FILE *file = name ? fopen(name, "rb") : stdin;
@@ -56,6 +56,10 @@ int main(int count, char **arguments)
     size_t length, number, place;
     int64_t low, gap;
 
+    if (batchplan_version() != BATCHPLAN_VERSION) {
+        fputs("this program was made for another version of the library\n", stderr);
+        return 2;
+    }
     if (!read_sheet(count > 1 ? arguments[1] : NULL, sheet, sizeof sheet, &length)) {
         fputs("the sheet cannot be read\n", stderr);
         return 2;

@@ -1,4 +1,5 @@
-//! The same planner as the fastest plain Rust that was found: arrays of fixed size, each figure in as few bits as the ranges allow.
+//! The same planner as the fastest plain Rust that was found: arrays of fixed size, each figure in as few bits as the
+//! ranges allow.
 use crate::layout::{answer, read, refuse, Entry, Sizes};
 use batchplan::{Answer, Cause, Refusal};
 

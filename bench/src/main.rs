@@ -1,6 +1,7 @@
-//! Times the proved planner beside plain Rust planners, and the program batchplan beside the solver glpsol. Nothing is asserted of a time.
+//! Times the proved planner beside plain Rust planners, and the program batchplan beside the solver glpsol. Nothing is
+//! asserted of a time.
 
-// Document 01 writes its sums by index, and so do the planners here.
+// docs/TASK.md writes its sums by index, and so do the planners here.
 #![allow(clippy::needless_range_loop)]
 
 mod fixed;
@@ -10,7 +11,7 @@ mod process;
 mod sheets;
 
 use batchplan::{plan, Answer, RECORD_BYTES, SHEET_BYTES};
-use sheets::{Draws, Sheet};
+use sheets::{Generator, Sheet};
 use std::hint::black_box;
 use std::time::Instant;
 
@@ -48,16 +49,17 @@ fn agreed(name: &str, case: &Case) -> Answer {
     proved.0
 }
 
-/// The planners agree on a sheet, which gives a plan, and on sheets that differ from it in one byte, some with a short buffer.
+/// The planners agree on a sheet, which gives a plan, and on sheets that differ from it in one byte, some with a short
+/// buffer.
 fn check(sheet: &Sheet) {
     let answer = agreed(sheet.name, &(sheet.bytes(), RECORD_BYTES));
     assert!(matches!(answer, Answer::Plan { .. }), "{}: {answer:?}", sheet.name);
-    let mut draws = Draws(3);
+    let mut generator = Generator(3);
     for _ in 0..300 {
         let mut bytes = sheet.with_steps(40);
-        let place = draws.between(0, bytes.len() as i32 - 1) as usize;
-        bytes[place] = draws.between(0, 255) as u8;
-        let room = if draws.between(0, 9) == 0 { 30 } else { RECORD_BYTES };
+        let place = generator.between(0, bytes.len() as i32 - 1) as usize;
+        bytes[place] = generator.between(0, 255) as u8;
+        let room = if generator.between(0, 9) == 0 { 30 } else { RECORD_BYTES };
         agreed(sheet.name, &(bytes, room));
     }
 }
@@ -96,7 +98,8 @@ fn headline(what: &str) {
     println!("{what:30} {proved:>11} {plain:>11} {fixed:>11}   {:>6} {:>7}", "/Vec", "/arrays");
 }
 
-/// Where the time of a sheet goes: reading, which a buffer of no bytes ends with refusal 8; the first step with the record; each later step.
+/// Where the time of a sheet goes: reading, which a buffer of no bytes ends with refusal 8; the first step with the
+/// record; each later step.
 fn parts(sheet: &Sheet, later: u16) {
     let cases = [(1, 0), (1, RECORD_BYTES), (1 + later, RECORD_BYTES)];
     let rounds = rounds(&cases.map(|(k, room)| (sheet.with_steps(k), room)));
@@ -113,7 +116,10 @@ fn main() {
     let timed = [sheets::c7(), sheets::c1(), sheets::middle(), sheets::largest()];
     timed.iter().for_each(check);
     assert_eq!(timed[3].bytes().len(), SHEET_BYTES, "the largest sheet has every entry");
-    println!("Answers and buffers are the same. Medians of {ROUNDS} rounds; a ratio is the proved planner's time to the other's.\n");
+    println!(
+        "Answers and buffers are the same. Medians of {ROUNDS} rounds; a ratio is the proved planner's time to the \
+         other's.\n"
+    );
     headline("planning a sheet");
     for sheet in &timed {
         line(sheet.name, &rounds(&[(sheet.bytes(), RECORD_BYTES)]), |round| round[0]);

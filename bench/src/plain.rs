@@ -1,4 +1,5 @@
-//! A planner from document 01 as one writes it without further thought: figures of 64 bits in vectors, and nested loops by index.
+//! A planner from docs/TASK.md as one writes it without further thought: figures of 64 bits in vectors, and nested
+//! loops by index.
 use crate::layout::{answer, read, refuse, Entry, Sizes};
 use batchplan::{Answer, Cause, Refusal};
 

@@ -14,10 +14,11 @@ pub struct Sheet {
     pub limits: Vec<Vec<i32>>,
 }
 
-/// Numbers without a meaning: the upper half of x, which each draw makes 6,364,136,223,846,793,005 x + 1,442,695,040,888,963,407 of 64 bits.
-pub struct Draws(pub u64);
+/// A generator of pseudo-random numbers: the upper half of x, which each call makes
+/// 6,364,136,223,846,793,005 x + 1,442,695,040,888,963,407 of 64 bits.
+pub struct Generator(pub u64);
 
-impl Draws {
+impl Generator {
     pub fn between(&mut self, least: i32, greatest: i32) -> i32 {
         self.0 =
             self.0.wrapping_mul(6_364_136_223_846_793_005).wrapping_add(1_442_695_040_888_963_407);
@@ -29,7 +30,7 @@ impl Draws {
         self.between(1, greatest) * (2 * self.between(0, 1) - 1)
     }
 
-    fn list(&mut self, length: usize, mut draw: impl FnMut(&mut Draws) -> i32) -> Vec<i32> {
+    fn list(&mut self, length: usize, mut draw: impl FnMut(&mut Generator) -> i32) -> Vec<i32> {
         (0..length).map(|_| draw(self)).collect()
     }
 }
@@ -60,7 +61,7 @@ impl Sheet {
         bytes
     }
 
-    /// The linear program of the sheet, whose optimum is the cost of the cheapest lawful recipe.
+    /// The linear program of the sheet, whose optimum is the cost of the cheapest feasible recipe.
     pub fn linear_program(&self) -> String {
         let sum = |figures: &[i32]| -> String {
             figures
@@ -110,19 +111,19 @@ pub fn c1() -> Sheet {
     }
 }
 
-/// A sheet with every entry, and figures that give a good plan. A recipe strictly inside the bounds keeps every limit with something to
-/// spare, so that there is no refusal 9, and the step is short, so that there is no refusal 10.
-fn drawn(name: &'static str, seed: u64, n: usize, m: usize, k: u16) -> Sheet {
-    let mut draws = Draws(seed);
-    let cost = draws.list(n, |draws| draws.signed(10_000));
-    let least = draws.list(n, |draws| draws.between(1, 10));
-    let most = draws.list(n, |draws| draws.between(30, 60));
-    let recipe = draws.list(n, |draws| draws.between(15, 25));
+/// A sheet with every entry, and figures that give a good plan. A recipe strictly inside the bounds keeps every limit
+/// with something to spare, so that there is no refusal 9, and the step is short, so that there is no refusal 10.
+fn random(name: &'static str, seed: u64, n: usize, m: usize, k: u16) -> Sheet {
+    let mut generator = Generator(seed);
+    let cost = generator.list(n, |generator| generator.signed(10_000));
+    let least = generator.list(n, |generator| generator.between(1, 10));
+    let most = generator.list(n, |generator| generator.between(30, 60));
+    let recipe = generator.list(n, |generator| generator.between(15, 25));
     let mut limits = Vec::new();
     for _ in 0..m {
-        let mut limit = draws.list(n, |draws| draws.signed(20));
+        let mut limit = generator.list(n, |generator| generator.signed(20));
         let load: i32 = limit.iter().zip(&recipe).map(|(a, amount)| a * amount).sum();
-        limit.push(load + draws.between(1, 50));
+        limit.push(load + generator.between(1, 50));
         limits.push(limit);
     }
     let (p, d) = (1, 64);
@@ -130,9 +131,9 @@ fn drawn(name: &'static str, seed: u64, n: usize, m: usize, k: u16) -> Sheet {
 }
 
 pub fn middle() -> Sheet {
-    drawn("middle (n 12, m 6, k 500)", 1, 12, 6, 500)
+    random("middle (n 12, m 6, k 500)", 1, 12, 6, 500)
 }
 
 pub fn largest() -> Sheet {
-    drawn("largest (n 32, m 16, k 4096)", 2, 32, 16, 4_096)
+    random("largest (n 32, m 16, k 4096)", 2, 32, 16, 4_096)
 }

@@ -1,16 +1,17 @@
 /*
  * batchplan: plans a batch sheet.
  *
- * A sheet has n materials with costs and bounds, m limits, a step length p/D and a step count k. Planning it walks k steps of a dual
- * subgradient method in whole numbers, and gives the sums of the step amounts, a lower bound on cost (low), a gap, and for each limit the
- * closing multiplier and the overshoot. Document 01, the project's task paper, states every rule; docs/PROMISES.md quotes it sentence by
- * sentence.
+ * A sheet has n materials with costs and bounds, m limits, a step length p/D and a step count k. Planning it takes k
+ * steps of a dual subgradient method in whole numbers, and gives the sums of the amounts, a lower bound on cost (low),
+ * a gap, and for each limit the closing multiplier and the residual total. docs/TASK.md states every rule; T7.4 and the
+ * like are its anchors.
  *
- * A sheet, all figures little-endian, has 12 + 6e bytes:
- *   at 0        six sizes of 2 bytes each, unsigned: n, m, e, p, D, k
+ * A sheet, lowest byte first, has 12 + 6e bytes (T2):
+ *   at 0        the sizes n, m, e, p, D, k, of 2 bytes each, unsigned
  *   at 12       e keys of 2 bytes each, unsigned, rising: row * 64 + column
  *   at 12 + 2e  e values of 4 bytes each, signed, none of them 0, in the order of their keys
- * A figure that has no entry is 0. n is 1 to 32, m 0 to 16, e at most n(m + 3) + m, p and D 1 to 1,024, k 1 to 4,096. Rows are
+ * What has no entry is 0. n is 1 to 32, m 0 to 16, e at most n(m + 3) + m, p and D 1 to 1,024, k 1 to 4,096. The rows
+ * (T3) are
  *   0           column j: the cost of material j,          -10,000 to 10,000
  *   1           column j: its least amount,                1 to 1,000
  *   2           column j: its most amount,                 1 to 1,000
@@ -18,21 +19,25 @@
  *   3 + i       column n: b of limit i,                    -32,000,000 to 32,000,000
  * and limit i says that the sum of a times amount is at most b.
  *
- * The functions are proved: for every sheet and every buffer, their numbers and every byte that they leave are those of document 01's
- * definitions, and they always return. The proofs are about the functions as they are called by the rules below. Nothing checks a C caller.
+ * The functions are proved: for every sheet and every buffer, their numbers and every byte that they leave are those of
+ * the rules, and they always return. The proofs are about the functions as they are called by the conditions below.
+ * Nothing checks a C caller.
  *
  * What the caller keeps, of every pointer and length that it passes:
- *   - `sheet` points to `sheet_bytes` bytes that can be read; `record` and `text` point to as many bytes as the length beside them says,
- *     which can be read and written. Where a length is 0 the pointer may be NULL: no byte is read or written through it.
- *   - `place`, `low` and `gap` each point to an aligned object of their type that can be written. They are written by every call, and are
- *     never NULL.
+ *   - `sheet` points to `sheet_bytes` bytes that can be read; `record` and `text` point to as many bytes as the length
+ *     beside them says, which can be read and written. Where a length is 0 the pointer may be NULL: no byte is read or
+ *     written through it.
+ *   - `place`, `low` and `gap` each point to an aligned object of their type that can be written. They are written by
+ *     every call, and are never NULL.
  *   - No two of these objects overlap, and none changes, by another thread or a signal handler, until the call returns.
  * There are no other conditions: the bytes of a sheet may be any bytes, and a buffer may have any length.
  *
- * The functions keep no state, allocate nothing, print nothing and read no clock, file or environment. So threads may call them at the
- * same time, each with its own objects. They want some 12 KB of stack. The largest sheet takes some two milliseconds.
+ * The functions keep no state, allocate nothing, print nothing and read no clock, file or environment. So threads may
+ * call them at the same time, each with its own objects. They want some 12 KB of stack. The largest sheet takes some
+ * two milliseconds.
  *
- * To link: the archive target/staticlib/libbatchplan_lib.a, made by `rt staticlib batchplan_lib`, for x86-64 Linux, and the C library.
+ * To link: the archive target/staticlib/libbatchplan_lib.a, made by `rt staticlib batchplan_lib`, for x86-64 Linux, and
+ * the C library.
  */
 #ifndef BATCHPLAN_H
 #define BATCHPLAN_H
@@ -44,59 +49,71 @@
 extern "C" {
 #endif
 
+/*
+ * The version of the rules that this header is for (T10.5). It goes up by one when an answer, a length or the layout of
+ * a record changes. Where batchplan_version() gives another number, the library was not made for this header.
+ */
+#define BATCHPLAN_VERSION 1
+
 /* The length of the longest sheet. A longer one is refused. */
 #define BATCHPLAN_SHEET_BYTES 3756
 
-/* The length of the longest record: a record buffer of this length takes every record, so that no sheet is refused with 8. */
+/* The length of the longest record: a record buffer of this length takes every record, so that 8 never comes. */
 #define BATCHPLAN_RECORD_BYTES 342
 
 /* A text buffer of this length takes every listing. */
 #define BATCHPLAN_LISTING_BYTES 4096
 
-/* What batchplan_plan answers: 0 for a plan, and else document 01's number of the refusal. `place` is 0 where nothing else is said. */
+/* What batchplan_plan answers: 0 for a plan, and else the number of the refusal (T7.4). `place` is 0 where nothing else
+ * is said. Entries, materials and steps count from 0. */
 enum {
     BATCHPLAN_PLAN = 0,        /* a plan */
     BATCHPLAN_SHORT = 1,       /* the sheet has under 12 bytes */
     BATCHPLAN_DIMENSIONS = 2,  /* n, m or the count of entries is outside its range */
     BATCHPLAN_LENGTH = 3,      /* the sheet's length is not what its count of entries asks for */
     BATCHPLAN_PARAMETERS = 4,  /* p, D or k is outside its range */
-    BATCHPLAN_KEY = 5,         /* an entry's key names no figure, or is not above the one before; place: the entry, from 0 */
-    BATCHPLAN_VALUE = 6,       /* an entry's value is 0 or outside its range; place: the entry, from 0 */
-    BATCHPLAN_BOUNDS = 7,      /* a material's least amount is above its most amount; place: the material, from 0 */
+    BATCHPLAN_KEY = 5,         /* an entry's key names no figure, or is not above the one before; place: the entry */
+    BATCHPLAN_VALUE = 6,       /* an entry's value is 0 or outside its range; place: the entry */
+    BATCHPLAN_BOUNDS = 7,      /* a material's least amount is above its most amount; place: the material */
     BATCHPLAN_BUFFER = 8,      /* the record buffer is too short; place: the length that the record has */
-    BATCHPLAN_INFEASIBLE = 9,  /* no recipe keeps all bounds and limits ("no blend"); place: the step, from 0 */
-    BATCHPLAN_DIVERGED = 10    /* a multiplier grew above 1,073,741,824; place: the step, from 0 */
+    BATCHPLAN_INFEASIBLE = 9,  /* no recipe keeps all bounds and limits; place: the step */
+    BATCHPLAN_DIVERGED = 10    /* a multiplier grew above 1,073,741,824; place: the step */
 };
 
 /*
- * Plans a sheet.
+ * Plans a sheet (T10.3).
  *
- * For a plan: the answer is 0, *place is 0, *low and *gap are the plan's figures, and the record stands at the start of the buffer. The
- * bytes of the buffer after the record are as they were.
+ * For a plan: the answer is 0, *place is 0, *low and *gap are the plan's figures, and the record stands at the start of
+ * the buffer. The bytes of the buffer after the record are as they were.
  *
- * For a refusal: the answer is its number, 1 to 10, *place is its place, *low and *gap are 0, and every byte of the buffer is as it was.
+ * For a refusal: the answer is its number, 1 to 10, *place is its place, *low and *gap are 0, and every byte of the
+ * buffer is as it was.
  *
- * A record, all figures little-endian, has 22 + 4n + 12m bytes:
- *   at 0             n          2 bytes, unsigned
- *   at 2             m          2 bytes, unsigned
- *   at 4             k          2 bytes, unsigned
- *   at 6             low        8 bytes, signed
- *   at 14            gap        8 bytes, signed
- *   at 22            n sums         of 4 bytes each, signed; the averaged amount of a material is its sum / k
- *   at 22 + 4n       m multipliers  of 4 bytes each, signed
- *   at 22 + 4n + 4m  m overshoots   of 8 bytes each, signed
+ * A record, lowest byte first, has 22 + 4n + 12m bytes (T6):
+ *   at 0             n                  2 bytes, unsigned
+ *   at 2             m                  2 bytes, unsigned
+ *   at 4             k                  2 bytes, unsigned
+ *   at 6             low                8 bytes, signed
+ *   at 14            gap                8 bytes, signed
+ *   at 22            n sums             of 4 bytes each, signed; the averaged amount of a material is its sum / k
+ *   at 22 + 4n       m multipliers      of 4 bytes each, signed
+ *   at 22 + 4n + 4m  m residual totals  of 8 bytes each, signed; the average oversteps a limit by its total / k
  */
 size_t batchplan_plan(const uint8_t *sheet, size_t sheet_bytes, uint8_t *record, size_t record_bytes,
                       size_t *place, int64_t *low, int64_t *gap);
 
 /*
- * Writes the listing of a sheet: what the program batchplan prints. The sheet is planned with a record buffer of its own, of
- * BATCHPLAN_RECORD_BYTES bytes, so that it is never refused with 8.
+ * Writes the listing of a sheet: what the program batchplan prints (T8, T10.4). The sheet is planned with a record
+ * buffer of its own, of BATCHPLAN_RECORD_BYTES bytes, so that it is never refused with 8.
  *
- * The answer is the length of the listing, which stands at the start of the text buffer; the bytes after it are as they were. There is no
- * closing 0 byte. Where the listing is longer than the buffer, the answer is 0 and every byte of the buffer is as it was.
+ * The answer is the length of the listing, which stands at the start of the text buffer; the bytes after it are as they
+ * were. There is no closing 0 byte. Where the listing is longer than the buffer, the answer is 0 and every byte of the
+ * buffer is as it was.
  */
 size_t batchplan_listing(const uint8_t *sheet, size_t sheet_bytes, uint8_t *text, size_t text_bytes);
+
+/* The version of the rules that the library follows: BATCHPLAN_VERSION, where header and library belong together. */
+size_t batchplan_version(void);
 
 #ifdef __cplusplus
 }

@@ -1,12 +1,13 @@
 //! Plans batch sheets.
 //!
-//! A sheet has n materials with costs and bounds, m limits, a step length p/D and a step count k. Planning it walks k steps of a dual
-//! subgradient method in whole numbers, and gives the sums of the step amounts, a lower bound on cost (`low`), a gap, and for each limit
-//! the closing multiplier and the overshoot. Document 01 of the project states the layout of a sheet and every rule.
+//! A sheet has n materials with costs and bounds, m limits, a step length p/D and a step count k. Planning it takes k
+//! steps of a dual subgradient method in whole numbers, and gives the sums of the amounts, a lower bound on cost
+//! (`low`), a gap, and for each limit the closing multiplier and the overshoot. docs/TASK.md of the project states the
+//! layout of a sheet and every rule.
 //!
-//! The work is done by a library in Rattle that is proved to answer, for every sheet and every buffer, what document 01's definitions
-//! give. This crate declares its two functions and makes them safe to call: every function here takes any bytes, and none panics. The
-//! library is for x86-64 Linux.
+//! The work is done by a library in Rattle that is proved to answer, for every sheet and every buffer, what these rules
+//! give. This crate declares its functions and makes them safe to call: every function here takes any bytes, and none
+//! panics. The library is for x86-64 Linux.
 //!
 //! ```
 //! // one material of cost 5, from 4 to 4; a step of 1/1, and one step
@@ -28,6 +29,10 @@
 
 use std::error::Error;
 use std::fmt;
+
+/// The version of the rules that this crate is for. Where [`version`] gives another number, the archive that was linked
+/// is not the one that this crate was written for.
+pub const VERSION: usize = 1;
 
 /// The length of the longest sheet. A longer one is refused.
 pub const SHEET_BYTES: usize = 3756;
@@ -56,9 +61,18 @@ extern "C" {
         text: *mut u8,
         text_bytes: usize,
     ) -> usize;
+
+    fn batchplan_version() -> usize;
 }
 
-/// Why a sheet is refused. The number of each is document 01's.
+/// The version of the rules that the linked library follows. It goes up by one when an answer, a length or the layout
+/// of a record changes.
+pub fn version() -> usize {
+    // SAFETY: the function takes nothing and touches no memory.
+    unsafe { batchplan_version() }
+}
+
+/// Why a sheet is refused: the refusals of docs/TASK.md, T7.4, with their numbers.
 #[non_exhaustive]
 #[derive(Clone, Copy, Debug, PartialEq, Eq, Hash)]
 pub enum Cause {
@@ -78,7 +92,7 @@ pub enum Cause {
     Bounds = 7,
     /// The record buffer is too short. The place is the length that the record has.
     Buffer = 8,
-    /// No recipe keeps all bounds and limits ("no blend"). The place is the step.
+    /// No recipe keeps all bounds and limits. The place is the step.
     Infeasible = 9,
     /// A multiplier grew above 1,073,741,824. The place is the step.
     Diverged = 10,
@@ -98,7 +112,7 @@ impl Cause {
         Cause::Diverged,
     ];
 
-    /// Document 01's number, 1 to 10.
+    /// The number of the refusal, 1 to 10.
     pub fn number(self) -> u8 {
         self as u8
     }
@@ -148,9 +162,9 @@ impl Error for Refusal {}
 pub enum Answer {
     /// A plan. Its record stands at the start of the buffer, and the bytes after it are as they were.
     Plan {
-        /// D times a lower bound on the cost of every lawful recipe.
+        /// D times a lower bound on the cost of every feasible recipe.
         low: i64,
-        /// k times D times a bound on what the averaged recipe costs more than any lawful one. It may be negative.
+        /// k times D times a bound on what the averaged recipe costs more than any feasible one. It may be negative.
         gap: i64,
     },
     /// A refusal. Every byte of the buffer is as it was.
@@ -159,12 +173,13 @@ pub enum Answer {
 
 /// Plans a sheet into a record buffer. Both may have any length and hold any bytes.
 ///
-/// A record is n, m and k in 2 bytes each, low and gap in 8, n sums and m multipliers in 4, m overshoots in 8, little-endian:
-/// 22 + 4n + 12m bytes. [`Plan::of_record`] reads it.
+/// A record is n, m and k in 2 bytes each, low and gap in 8, n sums and m multipliers in 4, m overshoots in 8, the
+/// lowest byte first: 22 + 4n + 12m bytes. [`Plan::of_record`] reads it.
 pub fn plan(sheet: &[u8], record: &mut [u8]) -> Answer {
     let (mut place, mut low, mut gap) = (0, 0, 0);
-    // SAFETY: each pointer and length is that of a Rust slice, and each of the other three pointers that of a local variable of its type.
-    // So all can be read, and those that the function writes can be written; and no two overlap, because `record` is borrowed mutably.
+    // SAFETY: each pointer and length is that of a Rust slice, and each of the other three pointers that of a local
+    // variable of its type. So all can be read, and those that the function writes can be written; and no two overlap,
+    // because `record` is borrowed mutably.
     let number = unsafe {
         batchplan_plan(
             sheet.as_ptr(),
@@ -182,11 +197,11 @@ pub fn plan(sheet: &[u8], record: &mut [u8]) -> Answer {
     }
 }
 
-/// The listing of a sheet, as the program batchplan prints it: the lines of the plan, or the line `refused`, number, place.
+/// The listing of a sheet, as the program batchplan prints it: the lines of the plan, or that of the refusal.
 pub fn listing(sheet: &[u8]) -> String {
     let mut text = vec![0; LISTING_BYTES];
-    // SAFETY: each pointer and length is that of a Rust slice; `text` can be written, and is this function's own, so that it does not
-    // overlap `sheet`.
+    // SAFETY: each pointer and length is that of a Rust slice; `text` can be written, and is this function's own, so
+    // that it does not overlap `sheet`.
     let length =
         unsafe { batchplan_listing(sheet.as_ptr(), sheet.len(), text.as_mut_ptr(), text.len()) };
     text.truncate(length);
@@ -198,7 +213,7 @@ pub fn listing(sheet: &[u8]) -> String {
 pub struct Limit {
     /// The closing multiplier, times D.
     pub multiplier: i32,
-    /// The total of the misses of all steps.
+    /// The total of the residuals of all steps. The average oversteps the limit by this over the number of steps.
     pub overshoot: i64,
 }
 
@@ -207,11 +222,11 @@ pub struct Limit {
 pub struct Plan {
     /// k.
     pub steps: u16,
-    /// D times a lower bound on the cost of every lawful recipe.
+    /// D times a lower bound on the cost of every feasible recipe.
     pub low: i64,
-    /// k times D times a bound on what the averaged recipe costs more than any lawful one. It may be negative.
+    /// k times D times a bound on what the averaged recipe costs more than any feasible one. It may be negative.
     pub gap: i64,
-    /// For each material the total of its step amounts.
+    /// For each material the total of its amounts.
     pub sums: Vec<i32>,
     /// For each limit its multiplier and its overshoot.
     pub limits: Vec<Limit>,
@@ -227,7 +242,8 @@ impl Plan {
         }
     }
 
-    /// The plan that stands at the start of a record buffer; `None` where the bytes are too few for the sizes that they begin with.
+    /// The plan that stands at the start of a record buffer; `None` where the bytes are too few for the sizes that they
+    /// begin with.
     pub fn of_record(record: &[u8]) -> Option<Plan> {
         let (sizes, rest) = record.split_at_checked(6)?;
         let [n, m, steps] = [0, 2, 4].map(|at| u16::from_le_bytes([sizes[at], sizes[at + 1]]));

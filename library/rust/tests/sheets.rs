@@ -1,4 +1,4 @@
-//! The wrapper on document 01's marked sheets, on cut and overlong sheets, on buffers of many lengths, and on noise.
+//! The wrapper on the worked sheets of docs/TASK.md, on cut and overlong sheets, on buffers of many lengths, on noise.
 use batchplan::{listing, plan, Answer, Cause, Limit, Plan, Refusal, RECORD_BYTES, SHEET_BYTES};
 
 /// A sheet: its sizes n, m, p, D, k, and its entries, each a key and a value.
@@ -27,7 +27,7 @@ fn c3(steps: u16) -> Vec<u8> {
     sheet([1, 1, 1, 1, steps], &[(0, 1), (128, 1), (192, -1), (193, -5)])
 }
 
-/// The record of C1, by document 01's layout: n 2, m 1, k 4; low 104, gap -16; sums 10, 20; multiplier 12; overshoot 8.
+/// The record of C1 (docs/TASK.md, T11.1): n 2, m 1, k 4; low 104, gap -16; sums 10, 20; multiplier 12; overshoot 8.
 const C1_RECORD: [u8; 42] = [
     2, 0, 1, 0, 4, 0, 104, 0, 0, 0, 0, 0, 0, 0, 0xf0, 0xff, 0xff, 0xff, 0xff, 0xff, 0xff, 0xff, 10,
     0, 0, 0, 20, 0, 0, 0, 12, 0, 0, 0, 8, 0, 0, 0, 0, 0, 0, 0,
@@ -49,7 +49,7 @@ fn refused(cause: Cause, place: usize) -> Result<Plan, Refusal> {
     Err(Refusal { cause, place })
 }
 
-/// Document 01's marked sheets, with what it says of each.
+/// The sheets of docs/TASK.md, T11.2, with what it says of each.
 fn marked() -> Vec<(&'static str, Vec<u8>, Result<Plan, Refusal>)> {
     vec![
         ("C1", c1(4), planned(4, [104, -16], &[10, 20], &[(12, 8)])),
@@ -78,7 +78,7 @@ fn filled(length: usize) -> Vec<u8> {
     (0..length).map(|i| (7 * i + 3) as u8).collect()
 }
 
-/// The listing of what a sheet gives, as document 01 lays it out.
+/// The listing of what a sheet gives, as docs/TASK.md, T8, lays it out.
 fn text_of(result: &Result<Plan, Refusal>) -> String {
     let plan = match result {
         Ok(plan) => plan,
@@ -134,6 +134,12 @@ fn listings_of_c1_and_c3() {
 }
 
 #[test]
+fn the_version_is_that_of_the_archive_and_of_this_crate() {
+    assert_eq!(batchplan::version(), batchplan::VERSION);
+    assert_eq!(env!("CARGO_PKG_VERSION_MAJOR"), batchplan::VERSION.to_string());
+}
+
+#[test]
 fn averaged_amounts() {
     assert_eq!(Plan::of_sheet(&c1(4)).unwrap().amounts().collect::<Vec<_>>(), [2.5, 5.0]);
 }
@@ -184,10 +190,11 @@ fn c1_in_buffers_of_each_length() {
     }
 }
 
-/// Numbers without a meaning: the upper half of x, which each draw makes 6,364,136,223,846,793,005 x + 1,442,695,040,888,963,407 of 64 bits.
-struct Draws(u64);
+/// A generator of pseudo-random numbers: the upper half of x, which each call makes
+/// 6,364,136,223,846,793,005 x + 1,442,695,040,888,963,407 of 64 bits.
+struct Generator(u64);
 
-impl Draws {
+impl Generator {
     fn below(&mut self, bound: u32) -> u32 {
         self.0 =
             self.0.wrapping_mul(6_364_136_223_846_793_005).wrapping_add(1_442_695_040_888_963_407);
@@ -198,7 +205,7 @@ impl Draws {
         (0..length).map(|_| self.below(256) as u8).collect()
     }
 
-    /// A figure of a small sheet, at a row and a column; now and then one out of range, or a limit that no recipe keeps.
+    /// A figure of a small sheet, at a row and a column; now and then one out of range, or a limit that none keeps.
     fn figure(&mut self, row: u32, column: u32, n: u32) -> i32 {
         let small = self.below(10) as i32;
         match (row, self.below(100)) {
@@ -240,21 +247,21 @@ impl Draws {
 
 #[test]
 fn noise() {
-    let mut draws = Draws(1);
+    let mut generator = Generator(1);
     for _ in 0..2_000 {
-        let (length, room) = (draws.below(200), draws.below(80));
-        let bytes = draws.bytes(length as usize);
+        let (length, room) = (generator.below(200), generator.below(80));
+        let bytes = generator.bytes(length as usize);
         assert!(matches!(tried(&bytes, room as usize), Answer::Refused(_)));
     }
 }
 
 #[test]
 fn small_sheets_whole_and_damaged() {
-    let mut draws = Draws(2);
+    let mut generator = Generator(2);
     let mut met = [0; 11];
     for _ in 0..3_000 {
-        let sheet = draws.damaged();
-        let room = if draws.below(4) == 0 { 40 } else { RECORD_BYTES };
+        let sheet = generator.damaged();
+        let room = if generator.below(4) == 0 { 40 } else { RECORD_BYTES };
         match tried(&sheet, room) {
             Answer::Plan { .. } => met[0] += 1,
             Answer::Refused(refusal) => met[usize::from(refusal.cause.number())] += 1,
