@@ -61,11 +61,11 @@ module _ (P : Problem) where
         dualValue = dualValue M (at x);
       }
 
-  -- T4.6, the greatest ("dearest") cost within the bounds: u_j where c_j is positive, else l_j
+  -- T4.6, C, the greatest ("dearest") cost within the bounds: u_j where c_j > 0, else l_j
   unfoldable pub greatestCost : ℤ
   greatestCost = costOf P (λ j. cond (ltZ (pos 0) (P .cost j)) (P .most j) (P .least j))
 
-  -- the cheapest cost within the bounds: u_j where c_j is negative, else l_j
+  -- the cheapest cost within the bounds: u_j where c_j < 0, else l_j
   unfoldable pub cheapestCost : ℤ
   cheapestCost = costOf P (λ j. cond (ltZ (P .cost j) (pos 0)) (P .most j) (P .least j))
 
