@@ -1,4 +1,5 @@
-// Costs over the bounds and of sums: D times the cost of amounts, the greatest and the cheapest that the bounds allow, and the gap.
+// Costs over the bounds and of sums: D times the cost of amounts, the greatest and the cheapest that the bounds allow,
+// and the gap.
 ghost use mathlib.Core.Path.{_≡_};
 ghost use lib.IntN.{pos, _*ℤ_};
 ghost use Rattle.rules.specs.Notation.{at};

@@ -46,10 +46,11 @@ pub fn look_at<'a>(
     amounts: &'a mut [i16; 32],
     residuals: &'a mut [i32; 16],
 ) -> i64
-    requires { ⌜ LookFits (problemIn n m 0 scale (now cost) (now least) (now most) (now coefficient) (now rhs)) (at (now multipliers))
-        (now amounts) (now residuals) ⌝ }
+    requires { ⌜ LookFits (problemIn n m 0 scale (now cost) (now least) (now most) (now coefficient) (now rhs))
+        (at (now multipliers)) (now amounts) (now residuals) ⌝ }
     ensures { λ r. ⌜ LookIn (lookAt
-        (problemIn n m 0 scale (now (cost .entry)) (now (least .entry)) (now (most .entry)) (now (coefficient .entry)) (now (rhs .entry)))
+        (problemIn n m 0 scale (now (cost .entry)) (now (least .entry)) (now (most .entry))
+        (now (coefficient .entry)) (now (rhs .entry)))
         (at (now (multipliers .entry)))) (now (amounts .exit)) (now (residuals .exit)) r ⌝ }
 {
     choose_amounts(
