@@ -46,7 +46,8 @@ fn stopped(state: State, t: usize, cause: Cause) -> Stepped
 }
 
 impl State {
-    // Step t, with D times the greatest cost: a look at the multipliers, refusal 9, the move, refusal 10, and the totals.
+    // Step t, with D times the greatest cost: a look at the multipliers, refusal 9, the move, refusal 10, and the
+    // totals.
     pub fn step(self, f: Figures, coefficient: &[i16; 512], greatest: i64, t: usize) -> Stepped
         requires { ⌜ StepReady f (now coefficient) greatest t self ⌝ }
         ensures { λ r. ⌜ AfterSteps (problemOf f (now (coefficient .entry))) (suc t)
