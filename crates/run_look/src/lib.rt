@@ -11,7 +11,7 @@ use run_costs::scaled_cost;
 use run_sums::dot_32;
 use run_sums::dot_64;
 
-// The residuals ("misses") of amounts, into an array of zeros: what limit i keeps under b_i, less b_i.
+// The residuals of amounts (T4.4), into an array of zeros.
 fn take_residuals<'a>(
     n: usize,
     m: usize,
@@ -31,8 +31,8 @@ fn take_residuals<'a>(
     }
 }
 
-// The look at given multipliers: the dual value ("step value"), with the amounts and the residuals in two lent arrays,
-// which are to hold zeros. Places from n and from m on keep them.
+// The look at given multipliers: the dual value (T4.5), with the amounts and the residuals in two lent arrays, which
+// are to hold zeros. Places from n and from m on keep them.
 pub fn look_at<'a>(
     n: usize,
     m: usize,

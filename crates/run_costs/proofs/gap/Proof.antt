@@ -72,7 +72,8 @@ unfolding gapOf
 minus-64-requires c κs =
     let s = start c in
     let low-is = toZ-ofZ (s .fits .low) in
-    simp (scale-is s, cost-is c, count-is s, low-is, toZ-ofZ (s .pre .scaled), toZ-ofZ (s .pre .counted)) (s .pre .whole)
+    simp (scale-is s, cost-is c, count-is s, low-is, toZ-ofZ (s .pre .scaled), toZ-ofZ (s .pre .counted))
+    (s .pre .whole)
 
 returns : tie.Need-returns
 unfolding gapOf

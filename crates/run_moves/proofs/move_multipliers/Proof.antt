@@ -114,7 +114,8 @@ module _ (c : tie.After-larger Inv-loop μ-loop) where
       let fits : SFits w64 (c .before .plus-64 .result) = search needs in
       let residual-is = widened-is w64 tt (residual-fits turn) in
       toZ-ofZ fits
-      ∙ (simp (old-is turn, residual-is, numerator-is turn, toZ-ofZ (change-fits turn)) at (c .before .plus-64 .ensures))
+      ∙ (simp (old-is turn, residual-is, numerator-is turn, toZ-ofZ (change-fits turn))
+      at (c .before .plus-64 .ensures))
 
   move-is : toZ w64 (ofZ w64 (c .larger .result)) ≡ after (P turn) (M turn) (g turn) (i turn)
   unfolding moved
