@@ -231,8 +231,8 @@ module _ (c : tie.After-larger) where
   multipliers-are =
       let move = at-m going .move-multipliers .ensures in
       let none = sym (move .test) ∙ going .if2 .left in
-      let all = changed-end (places-all _ (f s-l .limits) none) (move .places) in
-      multipliers-changed (accepted s-l) (t s-l) (λ k. state-is s-l k .multipliers) all
+      multipliers-changed (accepted s-l) (t s-l) (λ k. state-is s-l k .multipliers)
+      (changed-end (places-all _ (f s-l .limits) none) (move .places))
       ∙ (λ k. padded 16 (moves-are (at-m going) k))
 
   sums-after : sums-of .add-amounts .last .1 .0 ≡ padded 32 (stateAfter (P s-l) (suc (t s-l)) .sums)
