@@ -67,10 +67,11 @@ module _ (f : Figures) (a : List ℤ) {k : ℕ} (accepted : Accepted (problemOf 
     whole = λ i l. bnd-sfits tt (large .step .one-residual i l .magnitude);
   }
 
-  -- the terms of the dual value, with the residuals as the look has them
+  -- D times the cost of the amounts
   abbrev costed : ℤ
   costed = pos (P .scale) *ℤ costOf P (amounts P t)
 
+  -- the terms of the dual value, with the residuals as the look has them
   value-fits : SumFits w64 costed (λ i. entering P t i *ℤ residuals P t i) (P .limits)
   value-fits = record {
     one = λ i l. rw (residuals-are P t i l) (large .step .dual-term i l .fits);

@@ -69,7 +69,7 @@ module _ (s : tie.Start) where
   unfolding stateIn
   totals-are = totals-read accepted t (λ k. state-is k .totals)
 
--- ---- the look, and its arguments: the least amounts are lent, then the copy w is made
+-- ---- the look, and its arguments: the least amounts are lent, and later w
 abbrev at-w : tie.After-g → tie.After-w
 at-w c = c .before .before .before
 
