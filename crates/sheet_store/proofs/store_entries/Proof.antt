@@ -131,7 +131,6 @@ module _ (c : tie.After-known-told Inv-loop μ-loop) where
 place-at-requires : tie.Need-place-at-requires Inv-loop μ-loop
 place-at-requires c κs = rw (key-read (entry c)) (in-table c)
 
--- its place
 place-is : (c : tie.After-place-at Inv-loop μ-loop) → let t = c .before in
     c .place-at .result ≡ placeAt (rowOf (S (a t) .key (i (a t)))) (columnOf (S (a t) .key (i (a t))))
 place-is c = c .place-at .ensures ∙ ap (λ key. placeAt (rowOf key) (columnOf key)) (key-read (entry (c .before)))
