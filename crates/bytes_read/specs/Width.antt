@@ -17,7 +17,7 @@ use Rattle.rules.specs.Bytes.{unsignedAt, signedOf}
 use Rattle.bytes_read.specs.Inside.{Width}
 
 -- the number from place a + o on is the one from place o on, once a bytes are dropped
-pub unsigned-drop : (w : ℕ) (s : List ℕ) (a o : ℕ) → unsignedAt w s (a + o) ≡ unsignedAt w (drop a s) o
+unsigned-drop : (w : ℕ) (s : List ℕ) (a o : ℕ) → unsignedAt w s (a + o) ≡ unsignedAt w (drop a s) o
 unfolding unsignedAt
 unsigned-drop zero s a o = refl
 unsigned-drop (suc w) s a o = rw (add-assoc, unsigned-drop w s a (o + 1), getD-drop)

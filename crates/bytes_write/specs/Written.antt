@@ -20,7 +20,7 @@ unfolding written
 written-none d = refl
 
 -- bytes after bytes: the later ones are at the start of the rest
-pub written-append : (front bytes d : List ℕ)
+written-append : (front bytes d : List ℕ)
     → written (front ++ bytes) d ≡ front ++ written bytes (drop (length front) d)
 unfolding written
 written-append front bytes d = simp (append-assoc, length-append, drop-drop)

@@ -1,4 +1,4 @@
-// The step amounts at given multipliers: each material takes the end of its bounds that its reduced cost chooses.
+// The amounts at given multipliers: each material takes the end of its bounds that its reduced cost chooses (T4.3).
 ghost use mathlib.Core.Path.{_≡_};
 ghost use Rattle.rules.specs.Notation.{tabulate, at};
 ghost use Rattle.rules.specs.Step.{amount};
@@ -29,7 +29,7 @@ fn amount_at<'a>(
     end_by(reduced, least[j], most[j])
 }
 
-// The amounts ("step amounts") of all materials, into an array of zeros. Places from n on keep them.
+// The amounts of all materials, into an array of zeros. Places from n on keep them.
 pub fn choose_amounts<'a>(
     n: usize,
     m: usize,

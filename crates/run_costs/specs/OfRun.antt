@@ -68,7 +68,10 @@ module _ (f : Figures) (a : List ℤ) {k : ℕ} (accepted : Accepted (problemOf 
         narrow = accepted .materials-few;
         scale = accepted .scale-small;
         few = le-trans few (accepted .steps-few);
-        sum = record { one = λ j l. large .sums-cost .term j l .fits; part = λ n l. rw +ℤ-idl (large .sums-cost .sum n l .fits) };
+        sum = record {
+          one = λ j l. large .sums-cost .term j l .fits;
+          part = λ n l. rw +ℤ-idl (large .sums-cost .sum n l .fits);
+        };
         scaled = large .sums-cost .scaled .fits;
         counted = large .counted-low .fits;
         whole = large .gap .fits;

@@ -1,4 +1,5 @@
-// Costs over the bounds and of sums: D times the cost of amounts, the greatest and the cheapest that the bounds allow, and the gap.
+// Costs over the bounds and of sums: D times the cost of amounts, the greatest and the cheapest that the bounds allow,
+// and the gap.
 ghost use mathlib.Core.Path.{_≡_};
 ghost use lib.IntN.{pos, _*ℤ_};
 ghost use Rattle.rules.specs.Notation.{at};
@@ -41,7 +42,7 @@ fn value_at_ends<'a>(
     scaled_cost(n, scale, cost, &x)
 }
 
-// D times the greatest ("dearest") cost that the bounds allow.
+// D times the greatest cost that the bounds allow (T4.6).
 pub fn greatest_value<'a>(
     n: usize,
     scale: usize,
@@ -73,7 +74,7 @@ pub fn cheapest_value<'a>(
     value_at_ends(n, scale, 1, cost, least, most)
 }
 
-// The gap of a count of steps, a low and sums: D times the cost of the sums, less the count times low.
+// The gap of a count of steps, a low and sums (T5.4).
 pub fn gap<'a>(
     n: usize,
     scale: usize,

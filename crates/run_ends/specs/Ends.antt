@@ -1,4 +1,5 @@
--- The end of the bounds that a weight chooses: u where the weight is below 0, else l. The weight is a reduced cost, a cost, or a cost's opposite.
+-- The end of the bounds that a weight chooses: u for a weight below 0, and l for any other. The weight is a reduced
+-- cost, a cost, or a cost's opposite.
 use mathlib.Core.Path.{_≡_, refl, sym}
 use mathlib.Core.Bool.{cond}
 use Prim.Native.Nat.{zero, suc, zero-le}

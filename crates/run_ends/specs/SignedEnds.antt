@@ -1,4 +1,5 @@
--- The ends of the bounds that the costs of the materials choose, or, by the sign −1, their opposites; and what choosing them asks.
+-- The ends of the bounds that the costs of the materials choose, or, by the sign −1, their opposites; and what choosing
+-- them asks.
 use mathlib.Core.Path.{_≡_}
 use mathlib.Core.List.{List, [], replicate}
 use Prim.Native.Nat.{ℕ, _≤_}

@@ -1,4 +1,5 @@
--- What a look at multipliers M asks: there is room in the arrays, and every term, part of a sum and result fits its width.
+-- What a look at multipliers M asks: there is room in the arrays, and every term, part of a sum and result fits its
+-- width.
 use mathlib.Core.Path.{_≡_}
 use mathlib.Core.List.{List}
 use Prim.Native.Nat.{ℕ, _≤_, _<_}

@@ -11,7 +11,7 @@ use run_costs::scaled_cost;
 use run_sums::dot_32;
 use run_sums::dot_64;
 
-// The residuals ("misses") of amounts, into an array of zeros: what limit i keeps under b_i, less b_i.
+// The residuals of amounts (T4.4), into an array of zeros.
 fn take_residuals<'a>(
     n: usize,
     m: usize,
@@ -31,8 +31,8 @@ fn take_residuals<'a>(
     }
 }
 
-// The look at given multipliers: the dual value ("step value"), with the amounts and the residuals in two lent arrays,
-// which are to hold zeros. Places from n and from m on keep them.
+// The look at given multipliers: the dual value (T4.5), with the amounts and the residuals in two lent arrays, which
+// are to hold zeros. Places from n and from m on keep them.
 pub fn look_at<'a>(
     n: usize,
     m: usize,
@@ -46,10 +46,11 @@ pub fn look_at<'a>(
     amounts: &'a mut [i16; 32],
     residuals: &'a mut [i32; 16],
 ) -> i64
-    requires { ⌜ LookFits (problemIn n m 0 scale (now cost) (now least) (now most) (now coefficient) (now rhs)) (at (now multipliers))
-        (now amounts) (now residuals) ⌝ }
+    requires { ⌜ LookFits (problemIn n m 0 scale (now cost) (now least) (now most) (now coefficient) (now rhs))
+        (at (now multipliers)) (now amounts) (now residuals) ⌝ }
     ensures { λ r. ⌜ LookIn (lookAt
-        (problemIn n m 0 scale (now (cost .entry)) (now (least .entry)) (now (most .entry)) (now (coefficient .entry)) (now (rhs .entry)))
+        (problemIn n m 0 scale (now (cost .entry)) (now (least .entry)) (now (most .entry))
+        (now (coefficient .entry)) (now (rhs .entry)))
         (at (now (multipliers .entry)))) (now (amounts .exit)) (now (residuals .exit)) r ⌝ }
 {
     choose_amounts(

@@ -36,7 +36,8 @@ placesBefore (suc n) test = cond (anyBelow n test) (placesBefore n test) (cond (
 abbrev pub tooLarge : Problem → (M g : ℕ → ℤ) → ℕ → Bool
 tooLarge P M g i = ltZ (pos 1073741824) (at (tabulate (P .limits) (moved P M g)) i)
 
--- The multipliers as lent and afterwards, and whether one diverged: those before the first that did are moved, and the others are as lent.
+-- The multipliers as lent and afterwards, and whether one diverged: those before the first that did are moved, and the
+-- others are as lent.
 pub record Moved (P : Problem) (g : ℕ → ℤ) (old new : List ℤ) (result : Bool) : Type 0 where
   pub test : result ≡ diverged P (tabulate (P .limits) (moved P (at old) g))
   pub places : Changed (placesBefore (P .limits) (tooLarge P (at old) g)) (moved P (at old) g) old new

@@ -4,7 +4,8 @@ ghost use Rattle.run_moves.specs.Moves.{limitsMoved, MoveFits, Moved};
 use run_arithmetic::larger;
 use run_arithmetic::plus_64;
 
-// The move of the multipliers in place, each from its old one. It ends before the first that diverged, and answers whether there is one.
+// The move of the multipliers in place, each from its old one. It ends before the first that diverged, and answers
+// whether there is one.
 pub fn move_multipliers<'a>(
     m: usize,
     numerator: usize,
@@ -12,7 +13,8 @@ pub fn move_multipliers<'a>(
     residuals: &'a [i32; 16],
 ) -> bool
     requires { ⌜ MoveFits (limitsMoved m numerator) (at (now multipliers)) (at (now residuals)) ⌝ }
-    ensures { λ r. ⌜ Moved (limitsMoved m numerator) (at (now (residuals .entry))) (now (multipliers .entry)) (now (multipliers .exit)) r ⌝ }
+    ensures { λ r. ⌜ Moved (limitsMoved m numerator) (at (now (residuals .entry)))
+        (now (multipliers .entry)) (now (multipliers .exit)) r ⌝ }
 {
     let p = numerator as i64;
     let mut i: usize = 0;

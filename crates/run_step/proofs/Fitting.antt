@@ -67,16 +67,22 @@ module _ (f : Figures) (a : List ℤ) {k : ℕ} (accepted : Accepted (problemOf 
     whole = λ i l. bnd-sfits tt (large .step .one-residual i l .magnitude);
   }
 
+  -- D times the cost of the amounts
+  abbrev costed : ℤ
+  costed = pos (P .scale) *ℤ costOf P (amounts P t)
+
   -- the terms of the dual value, with the residuals as the look has them
-  value-fits : SumFits w64 (pos (P .scale) *ℤ costOf P (amounts P t)) (λ i. entering P t i *ℤ residuals P t i) (P .limits)
+  value-fits : SumFits w64 costed (λ i. entering P t i *ℤ residuals P t i) (P .limits)
   value-fits = record {
     one = λ i l. rw (residuals-are P t i l) (large .step .dual-term i l .fits);
-    part = λ m l. subst (λ z. SFits w64 (pos (P .scale) *ℤ costOf P (amounts P t) +ℤ z)) (by-residuals m l) (large .step .dual-part m l .fits);
+    part = λ m l. subst (λ z. SFits w64 (costed +ℤ z)) (by-residuals m l) (large .step .dual-part m l .fits);
   }
     where
       by-residuals : (m : ℕ) → m ≤ P .limits
-          → sumTo m (λ i. entering P t i *ℤ residual P (amounts P t) i) ≡ sumTo m (λ i. entering P t i *ℤ residuals P t i)
-      by-residuals m l = sumTo-cong m _ _ (λ i h. ap (λ g. entering P t i *ℤ g) (sym (residuals-are P t i (lt-of-lt-of-le h l))))
+          → sumTo m (λ i. entering P t i *ℤ residual P (amounts P t) i)
+          ≡ sumTo m (λ i. entering P t i *ℤ residuals P t i)
+      by-residuals m l =
+          sumTo-cong m _ _ (λ i h. ap (λ g. entering P t i *ℤ g) (sym (residuals-are P t i (lt-of-lt-of-le h l))))
 
   pub look-fits : LookFits (lookedAt f a) (entering P t) (replicate 32 (pos 0)) (replicate 16 (pos 0))
   unfolding lookAfter lookAt amount reducedCost residual loadOf dualValue costOf

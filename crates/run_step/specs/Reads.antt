@@ -15,7 +15,8 @@ use Rattle.sheet_figures.specs.Padded.{padded, at-padded}
 use Rattle.run_totals.specs.Changed.{Changed, changed-all}
 
 -- an array that holds a list of n elements, of which there is room for all, reads as the list
-pub array-reads : (room : ℕ) (xs : List ℤ) {n : ℕ} {array : List ℤ} → array ≡ padded room xs → length xs ≡ n → n ≤ room → at array ≡ at xs
+pub array-reads : (room : ℕ) (xs : List ℤ) {n : ℕ} {array : List ℤ}
+    → array ≡ padded room xs → length xs ≡ n → n ≤ room → at array ≡ at xs
 array-reads room xs e l few = (λ k. at (e k)) ∙ at-padded room xs (le-trans (le-of-eq l) few)
 
 module _ {P : Problem} {k : ℕ} (accepted : Accepted P k) (t : ℕ) where
@@ -25,7 +26,8 @@ module _ {P : Problem} {k : ℕ} (accepted : Accepted P k) (t : ℕ) where
   pub sums-read : {array : List ℤ} → array ≡ padded 32 (stateAfter P t .sums) → at array ≡ at (stateAfter P t .sums)
   sums-read e = array-reads 32 (stateAfter P t .sums) e (sums-length P t) (accepted .materials-few)
 
-  pub totals-read : {array : List ℤ} → array ≡ padded 16 (stateAfter P t .residualTotals) → at array ≡ at (stateAfter P t .residualTotals)
+  pub totals-read : {array : List ℤ} → array ≡ padded 16 (stateAfter P t .residualTotals)
+      → at array ≡ at (stateAfter P t .residualTotals)
   totals-read e = array-reads 16 (stateAfter P t .residualTotals) e (totals-length P t) (accepted .limits-few)
 
   pub multipliers-changed : {f : ℕ → ℤ} {array new : List ℤ} → array ≡ padded 16 (stateAfter P t .multipliers)

@@ -22,7 +22,8 @@ module _ (P : Problem) (t : ℕ) where
   refused-9 h = given _ (refuse-yes 9 t h)
 
   module _ (feasible : infeasible P (lookAfter P t) ≡ false) where
-    pub refused-10 : diverged P (stateAfter P (suc t) .multipliers) ≡ true → refusalAt P t ≡ some (record { number = 10; place = t })
+    pub refused-10 : diverged P (stateAfter P (suc t) .multipliers) ≡ true
+        → refusalAt P t ≡ some (record { number = 10; place = t })
     unfolding refusalAt
     refused-10 h = handed-on _ (refuse-no 9 t feasible) ∙ refuse-yes 10 t h
 

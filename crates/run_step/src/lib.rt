@@ -21,7 +21,7 @@ pub struct State {
     pub multipliers: [i32; 16],
     // sum j at place j
     pub sums: [i32; 32],
-    // residual total i ("overshoot") at place i
+    // residual total i at place i
     pub totals: [i64; 16],
     pub low: i64,
 }
@@ -46,7 +46,8 @@ fn stopped(state: State, t: usize, cause: Cause) -> Stepped
 }
 
 impl State {
-    // Step t, with D times the greatest cost: a look at the multipliers, refusal 9, the move, refusal 10, and the totals.
+    // Step t, with D times the greatest cost: the look at the multipliers and its refusal 9, the move and its
+    // refusal 10, then the sums and the totals.
     pub fn step(self, f: Figures, coefficient: &[i16; 512], greatest: i64, t: usize) -> Stepped
         requires { ⌜ StepReady f (now coefficient) greatest t self ⌝ }
         ensures { λ r. ⌜ AfterSteps (problemOf f (now (coefficient .entry))) (suc t)

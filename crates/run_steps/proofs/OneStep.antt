@@ -14,7 +14,8 @@ use Rattle.run_step.specs.declared.Stepped.{Stepped}
 use Rattle.run_step.specs.States.{stateIn, stepsTaken, AfterSteps}
 
 -- ---- one turn of the run, where no step before t is refused
-module _ (P : Problem) {t : ℕ} {r : Stepped} (before : stepRefusal P t ≡ none) (h : AfterSteps P (suc t) (refusalAt P t) r) where
+module _ (P : Problem) {t : ℕ} {r : Stepped}
+    (before : stepRefusal P t ≡ none) (h : AfterSteps P (suc t) (refusalAt P t) r) where
   -- the step goes on
   module _ (g : r .stop ≡ Passed) where
     none-here : refusalAt P t ≡ none
@@ -27,7 +28,10 @@ module _ (P : Problem) {t : ℕ} {r : Stepped} (before : stepRefusal P t ≡ non
 
     pub next-state : r .state ≡ stateIn (stateAfter P (t + 1))
     unfolding stepsTaken
-    next-state = h .state ∙ (λ i. stateIn (stateAfter P (stepsTaken (suc t) (none-here i)))) ∙ (λ i. stateIn (stateAfter P (sym (add-one t) i)))
+    next-state =
+        h .state
+        ∙ (λ i. stateIn (stateAfter P (stepsTaken (suc t) (none-here i))))
+        ∙ (λ i. stateIn (stateAfter P (sym (add-one t) i)))
 
   -- the step is refused
   pub hands-on : (k : ℕ) → t < k → {x : Refusal} → r .stop ≡ Refused x → AfterSteps P k (stepRefusal P k) r
@@ -37,5 +41,8 @@ module _ (P : Problem) {t : ℕ} {r : Stepped} (before : stepRefusal P t ≡ non
       let first : stepRefusal P k ≡ some (numbered x) = first-found (refusalAt P) k l before here in
       record {
         stop = ap refusalOf g ∙ sym first;
-        state = h .state ∙ (λ i. stateIn (stateAfter P (stepsTaken (suc t) (here i)))) ∙ (λ i. stateIn (stateAfter P (stepsTaken k (sym first i))));
+        state =
+            h .state
+            ∙ (λ i. stateIn (stateAfter P (stepsTaken (suc t) (here i))))
+            ∙ (λ i. stateIn (stateAfter P (stepsTaken k (sym first i))));
       }

@@ -23,7 +23,9 @@ module _ (w : Width) (first : ℤ) (term : ℕ → ℤ) (count : ℕ) where
   module _ (fits : SumFits w first term count) {sum i : ℕ} (turn : Turn sum i) (l : i < count) where
     sum-next : toZ w sum +ℤ term i ≡ first +ℤ sumTo (suc i) term
     sum-next =
-        ap (λ z. z +ℤ term i) (turn .is) ∙ +ℤ-assoc first (sumTo i term) (term i) ∙ ap (λ z. first +ℤ z) (sym (sumTo-suc i term))
+        ap (λ z. z +ℤ term i) (turn .is)
+        ∙ +ℤ-assoc first (sumTo i term) (term i)
+        ∙ ap (λ z. first +ℤ z) (sym (sumTo-suc i term))
 
     -- the sum with term i fits
     pub sum-fits : SFits w (toZ w sum +ℤ term i)
@@ -34,4 +36,6 @@ module _ (w : Width) (first : ℤ) (term : ℕ → ℤ) (count : ℕ) where
     turn-next f e = rw add-one (record { within = l; is = toZ-ofZ f ∙ e ∙ sum-next })
 
   pub turn-end : {sum i : ℕ} → Turn sum i → count ≤ i → toZ w sum ≡ first +ℤ sumTo count term
-  turn-end {i = i} turn l = let all : i ≡ count = omega (arith, turn .within) in turn .is ∙ ap (λ (n : ℕ). first +ℤ sumTo n term) all
+  turn-end {i = i} turn l =
+      let all : i ≡ count = omega (arith, turn .within) in
+      turn .is ∙ ap (λ (n : ℕ). first +ℤ sumTo n term) all

@@ -28,14 +28,16 @@ pub turn-start : {n : ℕ} {old more : List ℤ} → Turn n old more old 0
 turn-start = record { within = omega arith; done = changed-start }
 
 -- in turn i, with both elements read
-module _ {v w : Width} (narrow : T (leb (2 ^ hbits v) (2 ^ hbits w))) {n i : ℕ} {old more new : List ℤ} (turn : Turn n old more new i)
-    (total-fits : SFits w (at new i)) (more-fits : SFits v (at more i)) where
+module _ {v w : Width} (narrow : T (leb (2 ^ hbits v) (2 ^ hbits w))) {n i : ℕ} {old more new : List ℤ}
+    (turn : Turn n old more new i) (total-fits : SFits w (at new i)) (more-fits : SFits v (at more i)) where
   -- the sum that the code forms: the total is as at entry
   abbrev sum : ℤ
   sum = toZ w (ofZ w (at new i)) +ℤ toZ w (ofZ w (toZ v (ofZ v (at more i))))
 
   summed : sum ≡ added old more i
-  summed = rw (widened-is w narrow more-fits, toZ-ofZ total-fits) (ap (λ z. z +ℤ at more i) (turn .done .past i (le-refl i)))
+  summed =
+      rw (widened-is w narrow more-fits, toZ-ofZ total-fits)
+      (ap (λ z. z +ℤ at more i) (turn .done .past i (le-refl i)))
 
   -- it fits
   pub sum-fits : {room : ℕ} → TotalsFit w room n (at old) (at more) → i < n → SFits w sum

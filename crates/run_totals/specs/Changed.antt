@@ -26,7 +26,8 @@ module _ {f : ℕ → ℤ} {old : List ℤ} where
   changed-start = record { long = refl; here = λ i l h. absurd (omega arith); past = λ i l. refl }
 
   -- each turn changes the next place
-  pub changed-next : {i : ℕ} {new : List ℤ} {v : ℤ} → Changed i f old new → v ≡ f i → Changed (i + 1) f old (set new i v)
+  pub changed-next : {i : ℕ} {new : List ℤ} {v : ℤ} → Changed i f old new → v ≡ f i
+      → Changed (i + 1) f old (set new i v)
   changed-next {i} {new} {v} c e = record {
     long = length-set new i v ∙ c .long;
     here = λ x h l. by x (eqb x i) refl h l;
@@ -46,7 +47,8 @@ module _ {f : ℕ → ℤ} {old : List ℤ} where
   changed-end e c = rw e at c
 
 -- an array that holds a list of n elements, all of them changed, holds the changed list
-pub changed-all : (room : ℕ) (xs : List ℤ) {n : ℕ} {f : ℕ → ℤ} {old new : List ℤ} → old ≡ padded room xs → length xs ≡ n → n ≤ room → Changed n f old new → new ≡ padded room (tabulate n f)
+pub changed-all : (room : ℕ) (xs : List ℤ) {n : ℕ} {f : ℕ → ℤ} {old new : List ℤ}
+    → old ≡ padded room xs → length xs ≡ n → n ≤ room → Changed n f old new → new ≡ padded room (tabulate n f)
 changed-all room xs {n} {f} {old} {new} e l few c =
     ext-getD (pos 0) _ _ (c .long ∙ ap length e ∙ length-padded room xs ∙ sym (length-padded room (tabulate n f)))
     (λ i h. by i (ltb i n) refl ∙ sym (reads i))
@@ -60,5 +62,8 @@ changed-all room xs {n} {f} {old} {new} e l few c =
         c .here i below (rw (e, length-padded) (lt-of-lt-of-le below few)) ∙ sym (at-tabulate n f i below)
     by i false h =
         let out : n ≤ i = ltb-false i n h in
-        c .past i out ∙ ap (λ (ys : List ℤ). at ys i) e ∙ ap (λ (g : ℕ → ℤ). g i) (at-padded room xs (le-trans (le-of-eq l) few))
-        ∙ List·getD-eq-default xs (pos 0) (le-trans (le-of-eq l) out) ∙ sym (List·getD-eq-default (tabulate n f) (pos 0) (rw length-tabulate out))
+        c .past i out
+        ∙ ap (λ (ys : List ℤ). at ys i) e
+        ∙ ap (λ (g : ℕ → ℤ). g i) (at-padded room xs (le-trans (le-of-eq l) few))
+        ∙ List·getD-eq-default xs (pos 0) (le-trans (le-of-eq l) out)
+        ∙ sym (List·getD-eq-default (tabulate n f) (pos 0) (rw length-tabulate out))

@@ -10,7 +10,8 @@ use run_arithmetic::plus_64;
 // The amounts of one step more, added to the sums in place.
 pub fn add_amounts<'a>(n: usize, sums: &'a mut [i32; 32], amounts: &'a [i16; 32])
     requires { ⌜ TotalsFit w32 32 n (at (now sums)) (at (now amounts)) ⌝ }
-    ensures { λ _. ⌜ Changed n (λ j. at (now (sums .entry)) j +ℤ at (now (amounts .entry)) j) (now (sums .entry)) (now (sums .exit)) ⌝ }
+    ensures { λ _. ⌜ Changed n (λ j. at (now (sums .entry)) j +ℤ at (now (amounts .entry)) j)
+        (now (sums .entry)) (now (sums .exit)) ⌝ }
 {
     let mut j: usize = 0;
     while j < n {
@@ -22,7 +23,8 @@ pub fn add_amounts<'a>(n: usize, sums: &'a mut [i32; 32], amounts: &'a [i16; 32]
 // The residuals of one step more, added to the residual totals in place.
 pub fn add_residuals<'a>(limits: usize, totals: &'a mut [i64; 16], residuals: &'a [i32; 16])
     requires { ⌜ TotalsFit w64 16 limits (at (now totals)) (at (now residuals)) ⌝ }
-    ensures { λ _. ⌜ Changed limits (λ i. at (now (totals .entry)) i +ℤ at (now (residuals .entry)) i) (now (totals .entry)) (now (totals .exit)) ⌝ }
+    ensures { λ _. ⌜ Changed limits (λ i. at (now (totals .entry)) i +ℤ at (now (residuals .entry)) i)
+        (now (totals .entry)) (now (totals .exit)) ⌝ }
 {
     let mut i: usize = 0;
     while i < limits {

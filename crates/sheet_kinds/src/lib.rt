@@ -41,7 +41,7 @@ fn of_limit(shape: Shape, column: usize) -> Meaning
     Meaning::Nothing
 }
 
-// What stands at a row and a column: the row decides what a figure means.
+// What stands at a row and a column (T3.2).
 pub fn meaning_at(shape: Shape, row: usize, column: usize) -> Meaning
     requires { ⌜ FewLimits shape ⌝ }
     ensures { λ r. ⌜ meaningOf r ≡ meaningAt shape row column ⌝ }

@@ -5,7 +5,7 @@ ghost use Rattle.rules.specs.Ranges.{indexOf, rangeOf, inRange};
 use rules::Kind;
 use rules::Range;
 
-// The table, in the order of document 01.
+// The table, in the order of T3.2.
 const RANGES: [Range; 5] = [
     // row 0: cost
     Range {
@@ -25,13 +25,13 @@ const RANGES: [Range; 5] = [
         least: 1,
         greatest: 1000,
     },
-    // rows 3 to m+2, columns 0 to n-1: a of limit row-3
+    // the rows of the limits, columns below n: coefficient
     Range {
         kind: Kind::Coefficient,
         least: -1000,
         greatest: 1000,
     },
-    // rows 3 to m+2, column n: b of limit row-3
+    // the rows of the limits, column n: right-hand side
     Range {
         kind: Kind::Rhs,
         least: -32000000,

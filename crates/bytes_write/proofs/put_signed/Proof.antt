@@ -44,10 +44,10 @@ bytes w (negsuc v) l h = let e : w + (8 - w) ≡ 8 = omega arith in rw e at (wid
 returns : tie.Need-returns
 returns c =
     let call = c .before .before in
-    let start = call .before .before .before .before in
+    let at-bits = call .before in
+    let start = at-bits .before .before .before in
     let args = start .args in
-    let v : call .before .bits .result ≡ bits64 (args .v) =
-    simp (toZ-ofZ (start .fits .v)) at (call .before .bits .ensures) in
+    let v : at-bits .bits .result ≡ bits64 (args .v) = simp (toZ-ofZ (start .fits .v)) at (at-bits .bits .ensures) in
     let b = bytes (args .width) (args .v) (start .pre .narrow) (omega (arith, start .pre .small)) in
     call .put-unsigned .ensures
     ∙ ap (λ (s : List ℕ). writtenAt (args .at) s (args .d .now)) (ap (unsignedBytes (args .width)) v ∙ b)

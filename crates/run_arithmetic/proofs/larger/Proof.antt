@@ -11,15 +11,19 @@ returns : tie.Need-returns
 unfolding maxℤ
 returns c =
     let s = c .before in
-    let test : leZ (s .args .x) (s .args .y) ≡ true = simp (toZ-ofZ (s .fits .x), toZ-ofZ (s .fits .y)) at (c .if1 .taken) in
-    simp (toZ-ofZ (s .fits .y), test)
+    let x-is = toZ-ofZ (s .fits .x) in
+    let y-is = toZ-ofZ (s .fits .y) in
+    let test : leZ (s .args .x) (s .args .y) ≡ true = simp (x-is, y-is) at (c .if1 .taken) in
+    simp (y-is, test)
 
 returns-2 : tie.Need-returns-2
 unfolding maxℤ
 returns-2 c =
     let s = c .before in
-    let test : leZ (s .args .x) (s .args .y) ≡ false = simp (toZ-ofZ (s .fits .x), toZ-ofZ (s .fits .y)) at (c .if1 .left) in
-    simp (toZ-ofZ (s .fits .x), test)
+    let x-is = toZ-ofZ (s .fits .x) in
+    let y-is = toZ-ofZ (s .fits .y) in
+    let test : leZ (s .args .x) (s .args .y) ≡ false = simp (x-is, y-is) at (c .if1 .left) in
+    simp (x-is, test)
 
 pub larger-spec : {M : Type 1} → statement M
 larger-spec = tie.close (tie.spec returns returns-2)

@@ -10,13 +10,15 @@ mul-result c = simp (widened-is w32 tt (c .fits .x), widened-is w32 tt (c .fits 
 
 add-result : tie.Need-add-result
 add-result c =
-    simp (widened-is w32 tt (c .fits .x), widened-is w32 tt (c .fits .y), toZ-ofZ (c .pre .product), toZ-ofZ (c .fits .sum))
-    (c .pre .total)
+    let x-is = widened-is w32 tt (c .fits .x) in
+    let y-is = widened-is w32 tt (c .fits .y) in
+    simp (x-is, y-is, toZ-ofZ (c .pre .product), toZ-ofZ (c .fits .sum)) (c .pre .total)
 
 returns : tie.Need-returns
 returns c =
-    simp
-    (widened-is w32 tt (c .fits .x), widened-is w32 tt (c .fits .y), toZ-ofZ (c .pre .product), toZ-ofZ (c .fits .sum), toZ-ofZ (c .pre .total))
+    let x-is = widened-is w32 tt (c .fits .x) in
+    let y-is = widened-is w32 tt (c .fits .y) in
+    simp (x-is, y-is, toZ-ofZ (c .pre .product), toZ-ofZ (c .fits .sum), toZ-ofZ (c .pre .total))
 
 pub plus-product-32-spec : {M : Type 1} → statement M
 plus-product-32-spec =

@@ -71,7 +71,9 @@ minus-64-requires : tie.Need-minus-64-requires
 unfolding gapOf
 minus-64-requires c κs =
     let s = start c in
-    simp (scale-is s, cost-is c, count-is s, toZ-ofZ (s .fits .low), toZ-ofZ (s .pre .scaled), toZ-ofZ (s .pre .counted)) (s .pre .whole)
+    let low-is = toZ-ofZ (s .fits .low) in
+    simp (scale-is s, cost-is c, count-is s, low-is, toZ-ofZ (s .pre .scaled), toZ-ofZ (s .pre .counted))
+    (s .pre .whole)
 
 returns : tie.Need-returns
 unfolding gapOf
@@ -79,11 +81,19 @@ returns c =
     let a = c .before in
     let s = start a in
     let fits : SFits w64 (c .minus-64 .result) = search needs in
+    let low-is = toZ-ofZ (s .fits .low) in
     toZ-ofZ fits
-    ∙ (simp (scale-is s, cost-is a, count-is s, toZ-ofZ (s .fits .low), toZ-ofZ (s .pre .scaled), toZ-ofZ (s .pre .counted))
+    ∙ (simp (scale-is s, cost-is a, count-is s, low-is, toZ-ofZ (s .pre .scaled), toZ-ofZ (s .pre .counted))
     at (c .minus-64 .ensures))
 
 pub gap-spec : {M : Type 1} → statement M
 gap-spec =
     tie.close
-    (tie.spec dot-column-64-requires (search needs) mul-minus-64 (search needs) mul-minus-64-2 minus-64-requires returns)
+    (tie.spec
+    dot-column-64-requires
+    (search needs)
+    mul-minus-64
+    (search needs)
+    mul-minus-64-2
+    minus-64-requires
+    returns)

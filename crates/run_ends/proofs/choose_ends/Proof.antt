@@ -15,10 +15,14 @@ use Rattle.run_ends.proofs.choose_ends.Statement.{statement}
 use Rattle.run_ends.proofs.choose_ends.Tie as tie
 
 abbrev Inv-loop : tie.InvT-loop
-Inv-loop n sign cost least most ends₀ j₀ ends j = (j ≤ n) × (ends ≡ filled 32 (signedEnd (toZ w64 sign) (materialsOnly n 0 cost least most)) j)
+Inv-loop n sign cost least most ends₀ j₀ ends j =
+    (j ≤ n) × (ends ≡ filled 32 (signedEnd (toZ w64 sign) (materialsOnly n 0 cost least most)) j)
 
 abbrev μ-loop : tie.MeasureT-loop
 μ-loop n sign cost least most ends₀ j₀ ends j = n - j
+
+abbrev materials : tie.Start Inv-loop μ-loop → Problem
+materials s = materialsOnly (s .args .n) 0 (s .args .cost .now) (s .args .least .now) (s .args .most .now)
 
 -- in a turn, with the cost read
 module _ (c : tie.After-end-by-arg Inv-loop μ-loop) where
@@ -32,7 +36,7 @@ module _ (c : tie.After-end-by-arg Inv-loop μ-loop) where
   j = loop .loop .j
 
   abbrev P : Problem
-  P = materialsOnly (s .args .n) 0 (s .args .cost .now) (s .args .least .now) (s .args .most .now)
+  P = materials s
 
   cost-fits : SFits w16 (P .cost j)
   cost-fits = search needs
@@ -53,10 +57,12 @@ module _ (c : tie.After-end-by Inv-loop μ-loop) where
       let least-fits : SFits w16 (P turn .least (j turn)) = search needs in
       let most-fits : SFits w16 (P turn .most (j turn)) = search needs in
       let result-fits : SFits w16 (c .end-by .result) = search needs in
+      let cost-is = widened-is w64 tt (cost-fits turn) in
+      let sign-is = toZ-ofZ (s turn .fits .sign) in
       toZ-ofZ result-fits
-      ∙ (simp (toZ-ofZ least-fits, toZ-ofZ most-fits, widened-is w64 tt (cost-fits turn), toZ-ofZ (s turn .fits .sign), toZ-ofZ (weight-fits turn))
+      ∙ (simp (toZ-ofZ least-fits, toZ-ofZ most-fits, cost-is, sign-is, toZ-ofZ (weight-fits turn))
       at (c .end-by .ensures))
-      ∙ (λ k. signedEnd (sym (toZ-ofZ (s turn .fits .sign)) k) (P turn) (j turn))
+      ∙ (λ k. signedEnd (sym sign-is k) (P turn) (j turn))
 
 loop-again : tie.Need-loop-again Inv-loop μ-loop
 loop-again c =
@@ -67,7 +73,7 @@ returns : tie.Need-returns Inv-loop μ-loop
 returns c =
     let s = c .before .before in
     fill-end 32 _ (omega arith) (c .before .loop .inv .1)
-    ∙ (λ k. filled 32 (signedEnd (toZ-ofZ (s .fits .sign) k) (materialsOnly (s .args .n) 0 (s .args .cost .now) (s .args .least .now) (s .args .most .now))) (s .args .n))
+    ∙ (λ k. filled 32 (signedEnd (toZ-ofZ (s .fits .sign) k) (materials s)) (s .args .n))
 
 pub choose-ends-spec : {M : Type 1} → statement M
 choose-ends-spec =

@@ -23,8 +23,8 @@ use Rattle.run_look.proofs.look_at.Tie as tie
 module _ (s : tie.Start) where
   abbrev P : Problem
   P =
-      problemIn (s .args .n) (s .args .m) 0 (s .args .scale) (s .args .cost .now) (s .args .least .now) (s .args .most .now)
-      (s .args .coefficient .now) (s .args .rhs .now)
+      problemIn (s .args .n) (s .args .m) 0 (s .args .scale)
+      (s .args .cost .now) (s .args .least .now) (s .args .most .now) (s .args .coefficient .now) (s .args .rhs .now)
 
   abbrev M : ℕ → ℤ
   M = at (s .args .multipliers .now)
@@ -59,7 +59,8 @@ take-residuals-requires : tie.Need-take-residuals-requires
 unfolding residual loadOf
 take-residuals-requires c κs =
     let a = c .before .before in
-    let fits = subst (λ (x : ℕ → ℤ). ResidualsFit (P (s a)) x (s a .args .residuals .now)) (sym (x-reads a)) (s a .pre .residuals-fit) in
+    let asked = s a .pre .residuals-fit in
+    let fits = subst (λ (x : ℕ → ℤ). ResidualsFit (P (s a)) x (s a .args .residuals .now)) (sym (x-reads a)) asked in
     record { empty = fits .empty; narrow = fits .narrow; few = fits .few; load = fits .load; whole = fits .whole }
 
 module _ (c : tie.After-take-residuals) where
@@ -77,7 +78,9 @@ module _ (c : tie.After-take-residuals) where
 
   g-reads : at taken ≡ at (q (s at-x) .residuals)
   unfolding lookAt
-  g-reads = (λ k. at (g-is k)) ∙ at-padded 16 (q (s at-x) .residuals) (rw length-tabulate (s at-x .pre .residuals-fit .few))
+  g-reads =
+      let few = s at-x .pre .residuals-fit .few in
+      (λ k. at (g-is k)) ∙ at-padded 16 (q (s at-x) .residuals) (rw length-tabulate few)
 
 -- ---- the dual value
 scaled-cost-requires : tie.Need-scaled-cost-requires
@@ -103,23 +106,26 @@ module _ (c : tie.After-scaled-cost) where
 dot-64-requires : tie.Need-dot-64-requires
 dot-64-requires c κs =
     let a = c .before in
+    let s = s-v a in
+    let first = pos (P s .scale) *ℤ costOf (P s) (at (q s .amounts)) in
     rw (cost-is a)
     (record {
-      few = s-v a .pre .residuals-fit .few;
+      few = s .pre .residuals-fit .few;
       sum =
-          subst
-          (λ (g : ℕ → ℤ). SumFits w64 (pos (P (s-v a) .scale) *ℤ costOf (P (s-v a)) (at (q (s-v a) .amounts))) (λ i. M (s-v a) i *ℤ g i) (P (s-v a) .limits))
-          (sym (g-reads (at-g a))) (s-v a .pre .value);
+          subst (λ (g : ℕ → ℤ). SumFits w64 first (λ i. M s i *ℤ g i) (P s .limits)) (sym (g-reads (at-g a)))
+          (s .pre .value);
     })
 
 -- from the residuals that the look has worked out
 value-of : (P : Problem) (M : ℕ → ℤ)
-    → pos (P .scale) *ℤ costOf P (at (lookAt P M .amounts)) +ℤ sumTo (P .limits) (λ i. M i *ℤ at (lookAt P M .residuals) i)
+    → pos (P .scale) *ℤ costOf P (at (lookAt P M .amounts))
+    +ℤ sumTo (P .limits) (λ i. M i *ℤ at (lookAt P M .residuals) i)
     ≡ lookAt P M .dualValue
 unfolding lookAt dualValue
 value-of P M =
-    ap (λ z. pos (P .scale) *ℤ costOf P (at (lookAt P M .amounts)) +ℤ z)
-    (sumTo-cong (P .limits) _ _ (λ i l. ap (λ g. M i *ℤ g) (at-tabulate (P .limits) (residual P (at (lookAt P M .amounts))) i l)))
+    let x = at (lookAt P M .amounts) in
+    ap (λ z. pos (P .scale) *ℤ costOf P x +ℤ z)
+    (sumTo-cong (P .limits) _ _ (λ i l. ap (λ g. M i *ℤ g) (at-tabulate (P .limits) (residual P x) i l)))
 
 returns : tie.Need-returns
 returns c =

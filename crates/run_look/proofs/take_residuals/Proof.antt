@@ -16,7 +16,8 @@ use Rattle.run_look.proofs.take_residuals.Statement.{statement}
 use Rattle.run_look.proofs.take_residuals.Tie as tie
 
 abbrev Inv-loop : tie.InvT-loop
-Inv-loop n m coefficient rhs amounts residuals₀ i₀ residuals i = (i ≤ m) × (residuals ≡ filled 16 (residual (limitsOnly n m coefficient rhs) (at amounts)) i)
+Inv-loop n m coefficient rhs amounts residuals₀ i₀ residuals i =
+    (i ≤ m) × (residuals ≡ filled 16 (residual (limitsOnly n m coefficient rhs) (at amounts)) i)
 
 abbrev μ-loop : tie.MeasureT-loop
 μ-loop n m coefficient rhs amounts residuals₀ i₀ residuals i = m - i
@@ -26,12 +27,19 @@ dot-32-requires c κs =
     let loop = c .before .before in
     let asked = loop .before .pre in
     let here : loop .loop .i < loop .before .args .m = omega arith in
-    record { narrow = asked .narrow; inside = omega (arith, asked .narrow, asked .few); sum = asked .load (loop .loop .i) here }
+    record {
+      narrow = asked .narrow;
+      inside = omega (arith, asked .narrow, asked .few);
+      sum = asked .load (loop .loop .i) here;
+    }
 
 -- in a turn, with the load and b
 module _ (c : tie.After-residuals Inv-loop μ-loop) where
+  abbrev turn : tie.In-loop Inv-loop μ-loop
+  turn = c .before .before .before
+
   abbrev loop : tie.At-loop Inv-loop μ-loop
-  loop = c .before .before .before .before
+  loop = turn .before
 
   abbrev s : tie.Start Inv-loop μ-loop
   s = loop .before

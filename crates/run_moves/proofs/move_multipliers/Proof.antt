@@ -45,7 +45,8 @@ module _ (P : Problem) (old : List ℤ) (g : ℕ → ℤ) where
     done : Changed i after old new
 
 abbrev Inv-loop : tie.InvT-loop
-Inv-loop m numerator multipliers₀ residuals p i₀ multipliers i = Turn (limitsMoved m numerator) multipliers₀ (at residuals) multipliers i
+Inv-loop m numerator multipliers₀ residuals p i₀ multipliers i =
+    Turn (limitsMoved m numerator) multipliers₀ (at residuals) multipliers i
 
 abbrev μ-loop : tie.MeasureT-loop
 μ-loop m numerator multipliers₀ residuals p i₀ multipliers i = m - i
@@ -98,18 +99,23 @@ mul-plus-64-2 c = simp (widened-is w64 tt (residual-fits c), numerator-is c) (ch
 
 plus-64-requires : tie.Need-plus-64-requires Inv-loop μ-loop
 plus-64-requires c κs =
-    simp (old-is c, widened-is w64 tt (residual-fits c), numerator-is c, toZ-ofZ (change-fits c)) (s c .pre .uncut (i c) (here c))
+    simp (old-is c, widened-is w64 tt (residual-fits c), numerator-is c, toZ-ofZ (change-fits c))
+    (s c .pre .uncut (i c) (here c))
 
 -- with the moved multiplier
 module _ (c : tie.After-larger Inv-loop μ-loop) where
   abbrev turn : tie.After-plus-64-arg Inv-loop μ-loop
   turn = c .before .before
 
-  uncut-is : toZ w64 (ofZ w64 (c .before .plus-64 .result)) ≡ at (M turn) (i turn) +ℤ pos (P turn .numerator) *ℤ g turn (i turn)
+  uncut-is :
+      toZ w64 (ofZ w64 (c .before .plus-64 .result))
+      ≡ at (M turn) (i turn) +ℤ pos (P turn .numerator) *ℤ g turn (i turn)
   uncut-is =
       let fits : SFits w64 (c .before .plus-64 .result) = search needs in
+      let residual-is = widened-is w64 tt (residual-fits turn) in
       toZ-ofZ fits
-      ∙ (simp (old-is turn, widened-is w64 tt (residual-fits turn), numerator-is turn, toZ-ofZ (change-fits turn)) at (c .before .plus-64 .ensures))
+      ∙ (simp (old-is turn, residual-is, numerator-is turn, toZ-ofZ (change-fits turn))
+      at (c .before .plus-64 .ensures))
 
   move-is : toZ w64 (ofZ w64 (c .larger .result)) ≡ after (P turn) (M turn) (g turn) (i turn)
   unfolding moved
@@ -117,7 +123,9 @@ module _ (c : tie.After-larger Inv-loop μ-loop) where
       let fits : SFits w64 (c .larger .result) = search needs in
       toZ-ofZ fits ∙ c .larger .ensures ∙ ap (maxℤ (pos 0)) uncut-is
 
-  test-is : ltZ (pos 1073741824) (toZ w64 (ofZ w64 (c .larger .result))) ≡ tooLarge (P turn) (at (M turn)) (g turn) (i turn)
+  test-is :
+      ltZ (pos 1073741824) (toZ w64 (ofZ w64 (c .larger .result)))
+      ≡ tooLarge (P turn) (at (M turn)) (g turn) (i turn)
   test-is = ap (ltZ (pos 1073741824)) move-is ∙ test-at (P turn) (M turn) (g turn) (i turn) (here turn)
 
 returns : tie.Need-returns Inv-loop μ-loop
@@ -127,9 +135,10 @@ returns c =
     let t = turn a in
     let inv = loop t .loop .inv in
     let large = sym (test-is a) ∙ c .if1 .taken in
+    let test = tooLarge (P t) (at (M t)) (g t) in
     record {
-      test = sym (any-found (tooLarge (P t) (at (M t)) (g t)) (P t .limits) (here t) large);
-      places = changed-end (sym (places-found (tooLarge (P t) (at (M t)) (g t)) (P t .limits) (here t) (inv .small) large)) (inv .done);
+      test = sym (any-found test (P t .limits) (here t) large);
+      places = changed-end (sym (places-found test (P t .limits) (here t) (inv .small) large)) (inv .done);
     }
 
 -- one that is not too large

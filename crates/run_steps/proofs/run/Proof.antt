@@ -29,23 +29,36 @@ Inv-loop a f k greatest low r₀ t₀ r t = (r .stop ≡ Passed) × Reached f a 
 abbrev μ-loop : tie.MeasureT-loop
 μ-loop a f k greatest low r₀ t₀ r t = k - t
 
+-- ---- before the loop: the costs are lent, and the greatest cost is found; they are lent again for the cheapest
+abbrev at-costs : tie.After-greatest-value-arg3 Inv-loop μ-loop → tie.After-greatest-value-arg Inv-loop μ-loop
+at-costs c = c .before .before
+
+abbrev s-greatest : tie.After-greatest-value-arg3 Inv-loop μ-loop → tie.Start Inv-loop μ-loop
+s-greatest c = at-costs c .before .before
+
+abbrev at-costs-2 : tie.After-cheapest-value-arg3 Inv-loop μ-loop → tie.After-cheapest-value-arg Inv-loop μ-loop
+at-costs-2 c = c .before .before
+
+abbrev at-greatest : tie.After-cheapest-value-arg3 Inv-loop μ-loop → tie.After-greatest-value Inv-loop μ-loop
+at-greatest c = at-costs-2 c .before .before
+
 greatest-value-requires : tie.Need-greatest-value-requires Inv-loop μ-loop
 greatest-value-requires c κs =
-    let s = c .before .before .before .before in
+    let s = s-greatest c in
     greatest-fits (s .args .t1) (s .args .coefficient .now) (s .pre)
 
 cheapest-value-requires : tie.Need-cheapest-value-requires Inv-loop μ-loop
 cheapest-value-requires c κs =
-    let s = c .before .before .before .before .before .before .before .before .before in
+    let s = s-greatest (at-greatest c .before) in
     cheapest-fits (s .args .t1) (s .args .coefficient .now) (s .pre)
 
--- from the cheapest cost back to the greatest, and to the figures
+-- with the cheapest cost found
 module _ (c : tie.After-cheapest-value Inv-loop μ-loop) where
   abbrev found : tie.After-greatest-value Inv-loop μ-loop
-  found = c .before .before .before .before .before
+  found = at-greatest (c .before)
 
   abbrev s : tie.Start Inv-loop μ-loop
-  s = found .before .before .before .before .before
+  s = s-greatest (found .before)
 
 -- every multiplier and total is 0, and low is D times the cheapest cost, which is the dual value at multipliers of 0
 loop-holds : tie.Need-loop-holds Inv-loop μ-loop
@@ -74,12 +87,20 @@ unfolding greatestCost costOf
 step-requires c κs =
     let greatest = found (c .before .before .before) .greatest-value in
     let fits : SFits w64 (greatest .result) = search needs in
-    record { reached = c .before .before .loop .inv .1; more = omega arith; greatest-is = toZ-ofZ fits ∙ greatest .ensures }
+    record {
+      reached = c .before .before .loop .inv .1;
+      more = omega arith;
+      greatest-is = toZ-ofZ fits ∙ greatest .ensures;
+    }
+
+-- ---- after a step, back to where its turn began
+abbrev at-turn : tie.After-step Inv-loop μ-loop → tie.At-loop Inv-loop μ-loop
+at-turn c = c .before .before .before
 
 returns : tie.Need-returns Inv-loop μ-loop
 returns c =
     let stepped = c .before .before in
-    let loop = stepped .before .before .before in
+    let loop = at-turn stepped in
     let given = s (loop .before) .args in
     let f = given .t1 in
     hands-on (problemOf f (given .coefficient .now)) (loop .loop .inv .1 .going) (stepped .step .ensures) (f .steps)
@@ -88,8 +109,9 @@ returns c =
 loop-again : tie.Need-loop-again Inv-loop μ-loop
 loop-again c =
     let stepped = c .before .before in
-    let reached = stepped .before .before .before .loop .inv .1 in
-    let given = s (stepped .before .before .before .before) .args in
+    let loop = at-turn stepped in
+    let reached = loop .loop .inv .1 in
+    let given = s (loop .before) .args in
     let P = problemOf (given .t1) (given .coefficient .now) in
     let going = c .enum-told .given .1 in (
       going,

@@ -29,7 +29,9 @@ module _ (c : tie.After-plus-product-64-arg Inv-loop μ-loop) where
   abbrev at-loop : tie.At-loop Inv-loop μ-loop
   at-loop = c .before .before
 
-  inside : at-loop .before .args .from + at-loop .before .args .stride * at-loop .loop .i < length (at-loop .before .args .a .now)
+  inside :
+      at-loop .before .args .from + at-loop .before .args .stride * at-loop .loop .i
+      < length (at-loop .before .args .a .now)
   inside = at-loop .before .pre .inside (at-loop .loop .i) (omega arith)
 
 mul-plus-product-64-2 : tie.Need-mul-plus-product-64-2 Inv-loop μ-loop
@@ -55,7 +57,8 @@ module _ (c : tie.After-plus-product-64-arg2 Inv-loop μ-loop) where
   here : i < s .args .m
   here = omega arith
 
-  fits : SumFits w64 (toZ w64 (ofZ w64 (s .args .first))) (product (s .args .x .now) (s .args .a .now) (s .args .from) (s .args .stride)) (s .args .m)
+  fits : SumFits w64 (toZ w64 (ofZ w64 (s .args .first)))
+      (product (s .args .x .now) (s .args .a .now) (s .args .from) (s .args .stride)) (s .args .m)
   fits = rw (toZ-ofZ (s .fits .first)) (s .pre .sum)
 
   x-fits : SFits w32 (at (s .args .x .now) i)

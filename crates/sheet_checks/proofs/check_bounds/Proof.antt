@@ -58,8 +58,15 @@ most-inside c = omega (arith, narrow (c .before .before .before), c .place-at2 .
 
 -- the test compares them as they stand there
 module _ (c : tie.After-most Inv-loop μ-loop) where
+  -- the place of the most amount is found, and before it that of the least
+  abbrev at-most : tie.After-place-at2 Inv-loop μ-loop
+  at-most = c .before
+
+  abbrev at-least : tie.After-place-at Inv-loop μ-loop
+  at-least = at-most .before .before
+
   abbrev turn : tie.In-loop Inv-loop μ-loop
-  turn = c .before .before .before .before
+  turn = at-least .before
 
   before : scan 7 (crossed (tableIn (table turn))) (j turn) ≡ none
   before = turn .before .loop .inv .1
@@ -67,17 +74,15 @@ module _ (c : tie.After-most Inv-loop μ-loop) where
   in-table : j turn < 34
   in-table = omega (arith, narrow turn)
 
-  test-is : (b : Bool) → ltZ (toZ w32 (ofZ w32 (at (table turn) (c .before .place-at2 .result))))
-      (toZ w32 (ofZ w32 (at (table turn) (c .before .before .before .place-at .result)))) ≡ b
+  test-is : (b : Bool) → ltZ (toZ w32 (ofZ w32 (at (table turn) (at-most .place-at2 .result))))
+      (toZ w32 (ofZ w32 (at (table turn) (at-least .place-at .result)))) ≡ b
       → crossed (tableIn (table turn)) (j turn) ≡ b
   unfolding crossed
   test-is b h =
-      let most-fits : SFits w32 (at (table turn) (c .before .place-at2 .result)) = search needs in
-      let least-fits : SFits w32 (at (table turn) (c .before .before .before .place-at .result)) = search needs in
-      let most-at = sym (c .before .place-at2 .ensures) in
-      let least-at = sym (c .before .before .before .place-at .ensures) in
-      let most = table-at (table turn) 2 in-table ∙ ap (at (table turn)) most-at in
-      let least = table-at (table turn) 1 in-table ∙ ap (at (table turn)) least-at in
+      let most-fits : SFits w32 (at (table turn) (at-most .place-at2 .result)) = search needs in
+      let least-fits : SFits w32 (at (table turn) (at-least .place-at .result)) = search needs in
+      let most = table-at (table turn) 2 in-table ∙ ap (at (table turn)) (sym (at-most .place-at2 .ensures)) in
+      let least = table-at (table turn) 1 in-table ∙ ap (at (table turn)) (sym (at-least .place-at .ensures)) in
       (λ i. ltZ (most i) (least i)) ∙ (simp (toZ-ofZ most-fits, toZ-ofZ least-fits) at h)
 
 returns : tie.Need-returns Inv-loop μ-loop

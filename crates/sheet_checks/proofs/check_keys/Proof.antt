@@ -31,10 +31,14 @@ loop-holds : tie.Need-loop-holds Inv-loop μ-loop
 unfolding floorOf
 loop-holds c = record { within = omega arith; keys = first-start _; floor-is = refl }
 
+-- ---- before the loop: the sizes and the shape are read
+abbrev at-start : tie.After-shape Inv-loop μ-loop → tie.Start Inv-loop μ-loop
+at-start c = c .before .before .before
+
 -- ---- a turn: entry i
 module _ (c : tie.In-loop Inv-loop μ-loop) where
   abbrev start : tie.Start Inv-loop μ-loop
-  start = c .before .before .before .before .before
+  start = at-start (c .before .before)
 
   abbrev S : Sheet
   S = sheetOf (start .args .s .now)
@@ -112,7 +116,7 @@ returns-2 : tie.Need-returns-2 Inv-loop μ-loop
 unfolding refusalOf keyRefusal
 returns-2 c =
     let ended = c .before in
-    let start = ended .before .before .before .before in
+    let start = at-start (ended .before) in
     let all : ended .loop .i ≡ sheetOf (start .args .s .now) .entries =
     omega (arith, entries-is (start .pre .header)) in
     sym (first-end _ all (ended .loop .inv .keys))

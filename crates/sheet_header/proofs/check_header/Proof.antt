@@ -19,8 +19,12 @@ use Rattle.sheet_header.proofs.check_header.Tie as tie
 
 -- ---- the first test, of the sheet's own n, m and e
 module _ (c : tie.After-dimensions-in-range) where
+  -- the shape is read from the sizes
+  abbrev at-shape : tie.After-shape
+  at-shape = c .before
+
   abbrev start : tie.Start
-  start = c .before .before .before .before
+  start = at-shape .before .before .before
 
   abbrev s : List ℕ
   s = start .args .s .now

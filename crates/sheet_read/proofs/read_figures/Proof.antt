@@ -78,15 +78,17 @@ module _ (c : tie.After-enum-told) where
   table-is : table ≡ tabled (tableOf (S stored))
   table-is = stored .store-entries .ensures .1 ∙ ap (λ e. tabled (valueUnder (S stored) e)) all
 
+-- from the bounds back to the values
+abbrev at-values : tie.After-table2 → tie.After-enum-told
+at-values c = c .before .before .before
+
 check-bounds-requires : tie.Need-check-bounds-requires
-check-bounds-requires c κs =
-    let good = c .before .before .before in
-    record { narrow = headed (stored good) .in-range .narrow }
+check-bounds-requires c κs = record { narrow = headed (stored (at-values c)) .in-range .narrow }
 
 -- ---- refusals 6 and 7, in the definition's terms
 module _ (c : tie.After-check-bounds) where
   abbrev good : tie.After-enum-told
-  good = c .before .before .before .before
+  good = at-values (c .before)
 
   ranges : SizesInRange (S (stored good) .sizes .shape) (S (stored good) .entries)
   ranges = sheet-in-range (headed (stored good))

@@ -37,16 +37,18 @@ Inv-loop s table₀ shape keys e i₀ table i = Turn (sheetOf s) e table i
 abbrev μ-loop : tie.MeasureT-loop
 μ-loop s table₀ shape keys e i₀ table i = e - i
 
+-- ---- before the loop: the sizes and the shape are read
+abbrev at-start : tie.After-shape Inv-loop μ-loop → tie.Start Inv-loop μ-loop
+at-start c = c .before .before .before
+
 loop-holds : tie.Need-loop-holds Inv-loop μ-loop
 unfolding valueUnder
-loop-holds c =
-    let start = c .before .before .before in
-    record { within = omega arith; values = first-start _; stored = start .pre .empty }
+loop-holds c = record { within = omega arith; values = first-start _; stored = at-start c .pre .empty }
 
 -- ---- a turn: entry i, whose key stands for a figure
 module _ (c : tie.In-loop Inv-loop μ-loop) where
   abbrev start : tie.Start Inv-loop μ-loop
-  start = c .before .before .before .before .before
+  start = at-start (c .before .before)
 
   abbrev s : List ℕ
   s = start .args .s .now
@@ -129,7 +131,6 @@ module _ (c : tie.After-known-told Inv-loop μ-loop) where
 place-at-requires : tie.Need-place-at-requires Inv-loop μ-loop
 place-at-requires c κs = rw (key-read (entry c)) (in-table c)
 
--- its place
 place-is : (c : tie.After-place-at Inv-loop μ-loop) → let t = c .before in
     c .place-at .result ≡ placeAt (rowOf (S (a t) .key (i (a t)))) (columnOf (S (a t) .key (i (a t))))
 place-is c = c .place-at .ensures ∙ ap (λ key. placeAt (rowOf key) (columnOf key)) (key-read (entry (c .before)))
@@ -153,7 +154,7 @@ returns-2 : tie.Need-returns-2 Inv-loop μ-loop
 unfolding refusalOf valueRefusal storedBy
 returns-2 c =
     let ended = c .before in
-    let start = ended .before .before .before .before in
+    let start = at-start (ended .before) in
     let all : ended .loop .i ≡ start .args .header .entries = omega arith in (
       sym (first-end _ (all ∙ entries-is (start .pre .keyed .headed .header)) (ended .loop .inv .values)),
       ended .loop .inv .stored ∙ ap (λ k. tabled (valueUnder (sheetOf (start .args .s .now)) k)) all,

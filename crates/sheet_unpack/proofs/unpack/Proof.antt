@@ -58,6 +58,19 @@ module _ (s : tie.Start) where
     room = omega (arith, a .materials-few);
   }
 
+-- ---- the stages, each where a call has stored its figures, from the last to the first
+abbrev at-most : tie.After-take-rows → tie.After-take-row3
+at-most c = c .before .before .before
+
+abbrev at-least : tie.After-take-row3 → tie.After-take-row2
+at-least c = c .before .before .before
+
+abbrev at-cost : tie.After-take-row2 → tie.After-take-row
+at-cost c = c .before .before .before
+
+abbrev at-start : tie.After-take-row → tie.Start
+at-start c = c .before .before .before
+
 take-row-requires : tie.Need-take-row-requires
 unfolding problemFrom
 take-row-requires c κs =
@@ -67,35 +80,35 @@ take-row-requires c κs =
 take-row-requires-2 : tie.Need-take-row-requires-2
 unfolding problemFrom
 take-row-requires-2 c κs =
-    let s = c .before .before .before .before .before in
+    let s = at-start (c .before .before) in
     row-asks s 1 _ (omega arith) (length-replicate 32 (pos 0)) (least-fits (a s))
 
 take-row-requires-3 : tie.Need-take-row-requires-3
 unfolding problemFrom
 take-row-requires-3 c κs =
-    let s = c .before .before .before .before .before .before .before .before in
+    let s = at-start (at-cost (c .before .before)) in
     row-asks s 2 _ (omega arith) (length-replicate 32 (pos 0)) (most-fits (a s))
 
 take-rows-requires : tie.Need-take-rows-requires
 unfolding problemFrom
 take-rows-requires c κs =
-    let s = c .before .before .before .before .before .before .before .before .before .before .before in
+    let s = at-start (at-cost (at-least (c .before .before))) in
     record { few = a s .limits-few; narrow = a s .materials-few; fits = coefficient-fits (a s) }
 
 take-column-requires : tie.Need-take-column-requires
 unfolding problemFrom
 take-column-requires c κs =
-    let s = c .before .before .before .before .before .before .before .before .before .before .before .before .before in
+    let s = at-start (at-cost (at-least (at-most (c .before)))) in
     record { few = a s .limits-few; column-in = omega (arith, a s .materials-few) }
 
 returns : tie.Need-returns
 unfolding problemFrom figuresOf coefficientsOver array
 returns c =
     let rows = c .before .before in
-    let most = rows .before .before .before in
-    let least = most .before .before .before in
-    let cost = least .before .before .before in
-    let z = cost .before .before .before .args .sizes in (
+    let most = at-most rows in
+    let least = at-least most in
+    let cost = at-cost least in
+    let z = at-start cost .args .sizes in (
       (λ i. record {
         materials = z .shape .materials;
         limits = z .shape .limits;

@@ -27,7 +27,8 @@ use Rattle.run_moves.specs.Moves.{limitsMoved, MoveFits, places-all}
 use Rattle.run_totals.specs.Totals.{TotalsFit}
 use Rattle.run_totals.specs.Changed.{changed-end}
 use Rattle.run_step.specs.States.{stateIn}
-use Rattle.run_step.specs.Reads.{array-reads, multipliers-read, sums-read, totals-read, multipliers-changed, sums-changed, totals-changed}
+use Rattle.run_step.specs.Reads.{array-reads, multipliers-read, sums-read, totals-read}
+use Rattle.run_step.specs.Reads.{multipliers-changed, sums-changed, totals-changed}
 use Rattle.run_step.proofs.Fitting.{lookedAt, same-look, look-fits, move-fits, sums-fit, totals-fit}
 use Rattle.run_step.specs.Stops.{refused-9, refused-10, not-refused, hands-stop, hands-state}
 use Rattle.run_step.proofs.State.step.Statement.{statement}
@@ -68,9 +69,15 @@ module _ (s : tie.Start) where
   unfolding stateIn
   totals-are = totals-read accepted t (λ k. state-is k .totals)
 
--- ---- the look
+-- ---- the look, and its arguments: the least amounts are lent, and later w
+abbrev at-w : tie.After-g → tie.After-w
+at-w c = c .before .before .before
+
+abbrev at-least : tie.After-w → tie.After-look-at-arg2
+at-least c = c .before .before .before
+
 abbrev s-look : tie.After-g → tie.Start
-s-look c = c .before .before .before .before .before .before .before .before .before
+s-look c = at-least (at-w c) .before .before .before
 
 look-at-requires : tie.Need-look-at-requires
 look-at-requires c κs =
@@ -110,8 +117,10 @@ module _ (c : tie.After-look-at) where
       let fits : SFits w64 (c .look-at .result) = search needs in
       toZ-ofZ fits ∙ c .look-at .ensures .value-is ∙ (λ k. q-is k .dualValue)
 
-  -- rule 3 is the test
-  test-9 : ltZ (toZ w64 (ofZ w64 (s-q .args .greatest))) (toZ w64 (ofZ w64 (c .look-at .result))) ≡ infeasible (P s-q) (lookAfter (P s-q) (t s-q))
+  -- the test is that of T4.6
+  test-9 :
+      ltZ (toZ w64 (ofZ w64 (s-q .args .greatest))) (toZ w64 (ofZ w64 (c .look-at .result)))
+      ≡ infeasible (P s-q) (lookAfter (P s-q) (t s-q))
   unfolding infeasible
   test-9 = λ k. ltZ ((toZ-ofZ (s-q .fits .greatest) ∙ s-q .pre .greatest-is) k) (value-is k)
 
@@ -120,7 +129,8 @@ unfolding numbered numberOf
 returns c =
     let q = c .before .before in
     let s = s-q q in
-    hands-stop (P s) (suc (t s)) _ (c .stopped .ensures) (refused-9 (P s) (t s) (sym (test-9 q) ∙ c .before .if1 .taken)) (state-is s)
+    hands-stop (P s) (suc (t s)) _ (c .stopped .ensures)
+    (refused-9 (P s) (t s) (sym (test-9 q) ∙ c .before .if1 .taken)) (state-is s)
 
 -- ---- the move
 abbrev q-move : tie.After-g2 → tie.After-look-at
@@ -149,7 +159,7 @@ module _ (c : tie.After-move-multipliers) where
   unfolding stateAfter next lookAfter
   moves-are = λ k. tabulate (P s-m .limits) (moved (P s-m) (M-is s-m k) (g-reads at-q k))
 
-  -- rule 4 is the test
+  -- the test is that of T4.8
   test-10 : c .move-multipliers .result ≡ diverged (P s-m) (stateAfter (P s-m) (suc (t s-m)) .multipliers)
   unfolding diverged moved
   test-10 = c .move-multipliers .ensures .test ∙ (λ k. diverged (P s-m) (moves-are k))
@@ -176,16 +186,23 @@ module _ (c : tie.Else2) where
   converges : diverged (P s-e) (stateAfter (P s-e) (suc (t s-e)) .multipliers) ≡ false
   converges = sym (test-10 at-m) ∙ c .if2 .left
 
+-- no multiplier diverged, and then the sums are added to
+abbrev at-going : tie.After-x2 → tie.Else2
+at-going c = c .before .before
+
+abbrev at-sums : tie.After-g3 → tie.After-add-amounts
+at-sums c = c .before .before
+
 add-amounts-requires : tie.Need-add-amounts-requires
 add-amounts-requires c κs =
-    let e = c .before .before in
+    let e = at-going c in
     let s = s-e e in
     transport (λ k. TotalsFit w32 32 (f s .materials) (sym (sums-are s) k) (sym (x-reads (q-e e)) k))
     (sums-fit (f s) (a s) (accepted s) (t s) (large s))
 
 add-residuals-requires : tie.Need-add-residuals-requires
 add-residuals-requires c κs =
-    let e = c .before .before .before .before .before in
+    let e = at-going (at-sums c .before) in
     let s = s-e e in
     transport (λ k. TotalsFit w64 16 (f s .limits) (sym (totals-are s) k) (sym (g-reads (q-e e)) k))
     (totals-fit (f s) (a s) (accepted s) (t s) (large s))
@@ -196,10 +213,10 @@ module _ (c : tie.After-larger) where
   totals-of = c .before .before
 
   abbrev sums-of : tie.After-add-amounts
-  sums-of = totals-of .before .before .before
+  sums-of = at-sums (totals-of .before)
 
   abbrev going : tie.Else2
-  going = sums-of .before .before .before
+  going = at-going (sums-of .before)
 
   abbrev s-l : tie.Start
   s-l = s-e going
@@ -208,12 +225,14 @@ module _ (c : tie.After-larger) where
   q-l = q-e going
 
   -- no multiplier diverged, so all are moved
-  multipliers-are : at-m going .move-multipliers .last .1 .1 .0 ≡ padded 16 (stateAfter (P s-l) (suc (t s-l)) .multipliers)
+  multipliers-are :
+      at-m going .move-multipliers .last .1 .1 .0 ≡ padded 16 (stateAfter (P s-l) (suc (t s-l)) .multipliers)
   unfolding stateIn diverged moved
   multipliers-are =
       let move = at-m going .move-multipliers .ensures in
       let none = sym (move .test) ∙ going .if2 .left in
-      multipliers-changed (accepted s-l) (t s-l) (λ k. state-is s-l k .multipliers) (changed-end (places-all _ (f s-l .limits) none) (move .places))
+      multipliers-changed (accepted s-l) (t s-l) (λ k. state-is s-l k .multipliers)
+      (changed-end (places-all _ (f s-l .limits) none) (move .places))
       ∙ (λ k. padded 16 (moves-are (at-m going) k))
 
   sums-after : sums-of .add-amounts .last .1 .0 ≡ padded 32 (stateAfter (P s-l) (suc (t s-l)) .sums)
@@ -233,14 +252,20 @@ module _ (c : tie.After-larger) where
   low-is =
       let low-fits : SFits w64 (s-l .args .self .low) = search needs in
       let fits : SFits w64 (c .larger .result) = search needs in
-      toZ-ofZ fits ∙ c .larger .ensures ∙ (λ k. maxℤ ((toZ-ofZ low-fits ∙ (λ j. state-is s-l j .low)) k) (value-is q-l k))
+      let old = toZ-ofZ low-fits ∙ (λ j. state-is s-l j .low) in
+      toZ-ofZ fits ∙ c .larger .ensures ∙ (λ k. maxℤ (old k) (value-is q-l k))
 
 returns-3 : tie.Need-returns-3
 unfolding stateIn
 returns-3 c =
     let s = s-l c in
     hands-state (P s) (suc (t s)) refl (not-refused (P s) (t s) (feasible (at-m (going c))) (converges (going c)))
-    (λ k. record { multipliers = multipliers-are c k; sums = sums-after c k; totals = totals-after c k; low = low-is c k })
+    (λ k. record {
+      multipliers = multipliers-are c k;
+      sums = sums-after c k;
+      totals = totals-after c k;
+      low = low-is c k;
+    })
 
 pub step-spec : {M : Type 1} → statement M
 step-spec =
