@@ -26,7 +26,7 @@ pub <ℤ→≤ℤ : {x y : ℤ} → x <ℤ y → x ≤ℤ y
 pub <ℤ-suc : (x y : ℤ) → (x <ℤ y) ↔ ((x +ℤ pos 1) ≤ℤ y)
 <ℤ-suc x y = rw (as-dif x, as-dif y) (simp difs (omega arith))
 
-pub ≤ℤ-total : (x y : ℤ) → (x ≤ℤ y) ⊎ (y <ℤ x)
+≤ℤ-total : (x y : ℤ) → (x ≤ℤ y) ⊎ (y <ℤ x)
 ≤ℤ-total x y = go (ltZ y x) (λ t. ltZ-yes t) (λ t. ltZ-no t)
   where
     go : (b : Bool) → (T b → y <ℤ x) → (T (not b) → x ≤ℤ y) → (x ≤ℤ y) ⊎ (y <ℤ x)
@@ -34,7 +34,7 @@ pub ≤ℤ-total : (x y : ℤ) → (x ≤ℤ y) ⊎ (y <ℤ x)
     go false f g = inl (g tt)
 
 -- ---- naturals as integers
-pub pos-le : {m n : ℕ} → m ≤ n → pos m ≤ℤ pos n
+pos-le : {m n : ℕ} → m ≤ n → pos m ≤ℤ pos n
 pos-le {m} {n} h = leZ-yes (le→leb m n h)
 
 pub pos-nonneg : (n : ℕ) → pos 0 ≤ℤ pos n
@@ -52,11 +52,11 @@ pub negℤ-≤ℤ : (x y : ℤ) → (negℤ x ≤ℤ negℤ y) ↔ (y ≤ℤ x)
 negℤ-≤ℤ x y = rw (as-dif x, as-dif y) (simp difs (omega arith))
 
 -- x ≤ y says that y − x is not negative
-pub sub-nonneg : (x y : ℤ) → (x ≤ℤ y) ↔ (pos 0 ≤ℤ (y -ℤ x))
+sub-nonneg : (x y : ℤ) → (x ≤ℤ y) ↔ (pos 0 ≤ℤ (y -ℤ x))
 sub-nonneg x y = rw (as-dif x, as-dif y) (simp difs (omega arith))
 
 -- ---- products
-pub *ℤ-nonneg : {x y : ℤ} → pos 0 ≤ℤ x → pos 0 ≤ℤ y → pos 0 ≤ℤ (x *ℤ y)
+*ℤ-nonneg : {x y : ℤ} → pos 0 ≤ℤ x → pos 0 ≤ℤ y → pos 0 ≤ℤ (x *ℤ y)
 *ℤ-nonneg {x = pos a} {y = pos b} h k = pos-nonneg (a * b)
 *ℤ-nonneg {x = pos a} {y = negsuc b} h k = absurd (k .le)
 *ℤ-nonneg {x = negsuc a} {y = y} h k = absurd (h .le)

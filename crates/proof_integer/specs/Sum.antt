@@ -88,7 +88,7 @@ sumTo-mono zero f g h = ≤ℤ-refl (pos 0)
 sumTo-mono (suc n) f g h = +ℤ-mono (sumTo-mono n f g (λ j l. h j (le-step l))) (h n (le-refl (suc n)))
 
 -- ---- bounds: if each |f j| ≤ B, then |Σ_{j<n} f j| ≤ n·B
-pub sumTo-abs : (n B : ℕ) (f : ℕ → ℤ) → ((j : ℕ) → j < n → natAbs (f j) ≤ B) → natAbs (sumTo n f) ≤ n * B
+sumTo-abs : (n B : ℕ) (f : ℕ → ℤ) → ((j : ℕ) → j < n → natAbs (f j) ≤ B) → natAbs (sumTo n f) ≤ n * B
 unfolding sumTo
 sumTo-abs zero B f h = omega arith
 sumTo-abs (suc n) B f h =
