@@ -37,6 +37,7 @@ pub record StateMagnitudes (P : Problem) (t : ℕ) : Type 0 where
   pub multiplier : (i : ℕ) → i < P .limits → Fits64 (entering P t i) 1073741824
   pub sum : (j : ℕ) → j < P .materials → Fits64 (at (stateAfter P t .sums) j) 4096000
   pub residual-total : (i : ℕ) → i < P .limits → Fits64 (at (stateAfter P t .residualTotals) i) 262144000000
+  -- where the bound of low comes from; the code's proofs use the bound alone
   pub low-range : InCostRange P (lowAfter P t)
   pub low : Fits64 (lowAfter P t) 327680000000
   -- T5.4, the gap: D·Σ_j c_j·S_j − t·low

@@ -55,7 +55,7 @@ module _ {P : Problem} {M x M′ : ℕ → ℤ} (facts : FourFacts P M x M′) w
           ⊢ never) (omega arith)
           D d G v (gap-mul (<ℤ-suc (pos 0) d .0 hd) (<ℤ-suc (D *ℤ G) v .0 hv)) hd hv
 
--- the excess of a total C of weight W over a cost Y with d·low ≤ Y: d·C − W·Y ≤ d·(C − W·low)
+-- the excess of a total C over W times a cost Y with d·low ≤ Y: d·C − W·Y ≤ d·(C − W·low)
 pub excess : (W : ℕ) (d C Y low : ℤ) → (d *ℤ low) ≤ℤ Y → (d *ℤ C -ℤ pos W *ℤ Y) ≤ℤ (d *ℤ (C -ℤ pos W *ℤ low))
 excess W d C Y low h =
     omegaℤ 5 (λ W d C Y low. (lit 0 ≼ (W ⊖ lit 0) ⊗ (Y ⊖ d ⊗ low)) ∷ [] ⊢ d ⊗ C ⊖ W ⊗ Y ≼ d ⊗ (C ⊖ W ⊗ low))
