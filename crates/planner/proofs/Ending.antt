@@ -32,18 +32,24 @@ use Rattle.out_record.specs.RecordParts.{planIn}
 use Rattle.planner.specs.Finish.{Ends, planWith, WriteReady}
 
 -- a refusal leaves the buffer as lent
-pub ends-refused : {p : Plan} {met : Option Numbered} {lent : List ℕ} (r : Refusal) → met ≡ some (numbered r) → Ends p met lent lent (Answer.Refused r)
+pub ends-refused : {p : Plan} {met : Option Numbered} {lent : List ℕ} (r : Refusal) → met ≡ some (numbered r)
+    → Ends p met lent lent (Answer.Refused r)
 unfolding outcome outcomeOf bufferOf
-ends-refused {p} {met} {lent} r m = record { answered = λ i. outcomeOf p (sym m i); buffer = λ i. bufferOf p lent (outcomeOf p (sym m i)) }
+ends-refused {p} {met} {lent} r m = record {
+  answered = λ i. outcomeOf p (sym m i);
+  buffer = λ i. bufferOf p lent (outcomeOf p (sym m i));
+}
 
 -- a plan is followed in the buffer by the rest as lent
 pub ends-planned : {p : Plan} {lent left : List ℕ} {low gap : ℤ} → low ≡ p .low → gap ≡ p .gap
-    → left ≡ recordOf p ++ drop (recordLength (p .materials) (p .limits)) lent → Ends p none lent left (Answer.Plan low gap)
+    → left ≡ recordOf p ++ drop (recordLength (p .materials) (p .limits)) lent
+    → Ends p none lent left (Answer.Plan low gap)
 unfolding outcome outcomeOf bufferOf
 ends-planned l g b = record { answered = λ i. plan (l i) (g i); buffer = b }
 
 -- the same end, by another plan and another refusal that are equal
-pub ends-same : {p q : Plan} {met first : Option Numbered} {lent left : List ℕ} {r : Answer} → p ≡ q → met ≡ first → Ends p met lent left r → Ends q first lent left r
+pub ends-same : {p q : Plan} {met first : Option Numbered} {lent left : List ℕ} {r : Answer}
+    → p ≡ q → met ≡ first → Ends p met lent left r → Ends q first lent left r
 ends-same {lent = lent} {left = left} {r = r} e m h = transport (λ i. Ends (e i) (m i) lent left r) h
 
 -- ---- the plan that stands in the arrays after the last step
@@ -70,13 +76,15 @@ module _ (f : Figures) (a : List ℤ) {w : State} (reached : Reached f a (f .ste
   multipliers-kept : tabulate (f .limits) (at (w .multipliers)) ≡ last .multipliers
   unfolding stateIn
   multipliers-kept =
-      (λ i. tabulate (f .limits) (multipliers-read (reached .accepted) (f .steps) (λ k. reached .state k .multipliers) i))
+      (λ i.
+      tabulate (f .limits) (multipliers-read (reached .accepted) (f .steps) (λ k. reached .state k .multipliers) i))
       ∙ tabulate-at (f .limits) (last .multipliers) (multipliers-length P (f .steps))
 
   totals-kept : tabulate (f .limits) (at (w .totals)) ≡ last .residualTotals
   unfolding stateIn
   totals-kept =
-      (λ i. tabulate (f .limits) (totals-read (reached .accepted) (f .steps) (λ k. reached .state k .totals) i))
+      (λ i.
+      tabulate (f .limits) (totals-read (reached .accepted) (f .steps) (λ k. reached .state k .totals) i))
       ∙ tabulate-at (f .limits) (last .residualTotals) (totals-length P (f .steps))
 
   pub plan-in-arrays : planWith f w ≡ planAfter P (f .steps)

@@ -52,8 +52,8 @@ module _ (s : List ℕ) (read : layoutRefusal s ≡ none)
       ∙ (λ i. refuse 8 wanted (ltb room wanted) otherwise same-refusal agree k i)
       ∙ sym (handed-on (planRefusal P k room) read)
 
--- ---- a sheet that is turned back
-pub turned-back : (s : List ℕ) (room : ℕ) {r : Numbered} → layoutRefusal s ≡ some r
+-- ---- a sheet that is not read
+pub layout-refused : (s : List ℕ) (room : ℕ) {r : Numbered} → layoutRefusal s ≡ some r
     → refusal (sheetOf s) (layoutRefusal s) room ≡ some r
 unfolding refusal
-turned-back s room h = given _ h
+layout-refused s room h = given _ h

@@ -12,7 +12,8 @@ use Rattle.proof_integer.specs.Parts.{difs, as-dif}
 use Rattle.proof_integer.specs.Ring.{ringℤ-rules}
 use Rattle.proof_integer.specs.Order.{gap-mul, square-nonneg, max-cases}
 use Rattle.proof_integer.specs.Solve.{lit, _⊕_, _⊖_, _⊗_, _≋_, _≼_, _≺_, never, _⊢_, ringℤ, omegaℤ}
-use Rattle.proof_integer.specs.Range.{Bnd, _b+_, _b-_, _b*_, b-lit, b-up, bnd-of, sfits-bnd, bnd-sfits, bnd-between, between-bnd, sfits-between}
+use Rattle.proof_integer.specs.Range.{Bnd, _b+_, _b-_, _b*_, b-lit, b-up, bnd-of, sfits-bnd, bnd-sfits}
+use Rattle.proof_integer.specs.Range.{bnd-between, between-bnd, sfits-between}
 use Rattle.proof_integer.specs.Sum.{sumTo-cong, sumTo-add, sumTo-scale, sumTo-telescope, sumTo-bnd}
 use Rattle.proof_integer.specs.Vector.{at-tabulate}
 use Rattle.rules.specs.Notation.{maxℤ, sumTo, tabulate, at}
@@ -33,7 +34,8 @@ linear-at-terms f i x y = rw (as-dif (f i), as-dif (x *ℤ y)) (simp difs (omega
 -- ---- consequences, multiplied out first: `omegaℤ`
 -- products count as unknowns, whatever the order of their factors
 consequence : (a b q : ℤ) → (a +ℤ b) *ℤ q ≡ pos 10 → (pos 2 *ℤ q *ℤ b) ≤ℤ pos 7 → pos 13 ≤ℤ (pos 2 *ℤ (a *ℤ q))
-consequence = omegaℤ 3 (λ a b q. ((a ⊕ b) ⊗ q ≋ lit 10) ∷ (lit 2 ⊗ q ⊗ b ≼ lit 7) ∷ [] ⊢ lit 13 ≼ lit 2 ⊗ (a ⊗ q)) (omega arith)
+consequence =
+    omegaℤ 3 (λ a b q. ((a ⊕ b) ⊗ q ≋ lit 10) ∷ (lit 2 ⊗ q ⊗ b ≼ lit 7) ∷ [] ⊢ lit 13 ≼ lit 2 ⊗ (a ⊗ q)) (omega arith)
 
 -- hypotheses that contradict each other: the goal is `never`
 contradiction : (x y : ℤ) → x *ℤ y ≡ pos 5 → (y *ℤ x) <ℤ pos 5 → ⊥
@@ -41,12 +43,15 @@ contradiction = omegaℤ 2 (λ x y. (x ⊗ y ≋ lit 5) ∷ (y ⊗ x ≺ lit 5) 
 
 -- at terms, with a fact handed over that is no hypothesis: a square is not negative
 by-a-square : (f : ℕ → ℤ) (i j : ℕ) → (pos 2 *ℤ (f i *ℤ f j)) ≤ℤ (f i *ℤ f i +ℤ f j *ℤ f j)
-by-a-square f i j = omegaℤ 2 (λ x y. (lit 0 ≼ (x ⊖ y) ⊗ (x ⊖ y)) ∷ [] ⊢ lit 2 ⊗ (x ⊗ y) ≼ x ⊗ x ⊕ y ⊗ y) (omega arith) (f i) (f j) (square-nonneg (f i -ℤ f j))
+by-a-square f i j =
+    omegaℤ 2 (λ x y. (lit 0 ≼ (x ⊖ y) ⊗ (x ⊖ y)) ∷ [] ⊢ lit 2 ⊗ (x ⊗ y) ≼ x ⊗ x ⊕ y ⊗ y) (omega arith)
+    (f i) (f j) (square-nonneg (f i -ℤ f j))
 
 -- a product of two bounded variables: a product of two gaps is not negative
 by-gaps : (x y : ℤ) → x ≤ℤ pos 9 → pos 3 ≤ℤ y → y ≤ℤ pos 8 → (x *ℤ y) ≤ℤ pos 72
 by-gaps x y a b c =
-    omegaℤ 2 (λ x y. (lit 0 ≼ (lit 9 ⊖ x) ⊗ (y ⊖ lit 3)) ∷ (x ≼ lit 9) ∷ (y ≼ lit 8) ∷ [] ⊢ x ⊗ y ≼ lit 72) (omega arith)
+    omegaℤ 2 (λ x y.
+    (lit 0 ≼ (lit 9 ⊖ x) ⊗ (y ⊖ lit 3)) ∷ (x ≼ lit 9) ∷ (y ≼ lit 8) ∷ [] ⊢ x ⊗ y ≼ lit 72) (omega arith)
     x y (gap-mul a b) a c
 
 -- ---- identities
@@ -97,7 +102,9 @@ sum-of-steps : (n : ℕ) (f : ℕ → ℤ) → sumTo n (λ t. pos 2 *ℤ (f (suc
 sum-of-steps n f = simp sumTo-scale (ap (λ s. pos 2 *ℤ s) (sumTo-telescope n f))
 
 -- at most 32 products fit
-sum-fits : (n : ℕ) (f g : ℕ → ℤ) → n ≤ 32 → ((j : ℕ) → j < n → Bnd (f j) 1000) → ((j : ℕ) → j < n → Bnd (g j) 1000) → SFits w32 (sumTo n (λ j. f j *ℤ g j))
+sum-fits : (n : ℕ) (f g : ℕ → ℤ) → n ≤ 32
+    → ((j : ℕ) → j < n → Bnd (f j) 1000) → ((j : ℕ) → j < n → Bnd (g j) 1000)
+    → SFits w32 (sumTo n (λ j. f j *ℤ g j))
 sum-fits n f g l h k = bnd-sfits tt (sumTo-bnd {N = 32} n (λ j. f j *ℤ g j) l (λ j i. h j i b* k j i))
 
 -- ---- vectors: a sum over a list is the sum over what it was made of

@@ -10,7 +10,8 @@
 --   Tabulated   an array: one place set, all places 0, and what is read past its end
 --   Examples    each technique in use: begin here
 -- Another crate writes `use Rattle.proof_integer.specs.Order.{≤ℤ-trans}`, and so for each file.
--- `_≤ℤ_` and `_<ℤ_` bind tighter than `_+ℤ_`: put a sum in parentheses. A list `{-ℤ-mono}` opens a comment: put another name first.
+-- `_≤ℤ_` and `_<ℤ_` bind tighter than `_+ℤ_`: put a sum in parentheses.
+-- A list `{-ℤ-mono}` opens a comment: put another name first.
 pub mod Parts
 pub mod Ring
 pub mod Order

@@ -6,21 +6,15 @@ use mathlib.Core.Bool.{Bool, true, false, not, cond}
 use Prim.Native.Nat.{ℕ, suc, _*_, _≤_, zero-le}
 use native.Mathlib.Omega.{arith}
 use lib.Dec.{T, T-not, le→leb}
-use lib.IntN.{ℤ, pos, negsuc, negℤ, _+ℤ_, _-ℤ_, _*ℤ_, *ℤ-comm}
+use lib.IntN.{ℤ, pos, negsuc, negℤ, _+ℤ_, _-ℤ_, _*ℤ_}
 use lib.Signed.{_≤ℤ_, _<ℤ_, leZ, ltZ, leZ-yes, ltZ-yes, ltZ-no, ≤ℤ-refl}
 use Rattle.rules.specs.Notation.{maxℤ}
-use Rattle.proof_integer.specs.Parts.{difs, as-dif, by-parts, le→parts, lt→parts, parts→le, parts→lt}
+use Rattle.proof_integer.specs.Parts.{difs, as-dif, le→parts, lt→parts, parts→le}
 use Rattle.proof_integer.specs.Ring.{*ℤ--ℤ}
 
 -- ---- the two orders
 pub ≤ℤ-trans : {x y z : ℤ} → x ≤ℤ y → y ≤ℤ z → x ≤ℤ z
 ≤ℤ-trans h k = parts→le (omega (arith, le→parts))
-
-pub ≤ℤ-<ℤ-trans : {x y z : ℤ} → x ≤ℤ y → y <ℤ z → x <ℤ z
-≤ℤ-<ℤ-trans h k = parts→lt (omega (arith, le→parts, lt→parts))
-
-pub ≤ℤ-antisym : {x y : ℤ} → x ≤ℤ y → y ≤ℤ x → x ≡ y
-≤ℤ-antisym h k = by-parts _ _ (omega (arith, le→parts))
 
 pub ≡→≤ℤ : {x y : ℤ} → x ≡ y → x ≤ℤ y
 ≡→≤ℤ {x} {y} h = rw h (≤ℤ-refl y)
@@ -32,7 +26,7 @@ pub <ℤ→≤ℤ : {x y : ℤ} → x <ℤ y → x ≤ℤ y
 pub <ℤ-suc : (x y : ℤ) → (x <ℤ y) ↔ ((x +ℤ pos 1) ≤ℤ y)
 <ℤ-suc x y = rw (as-dif x, as-dif y) (simp difs (omega arith))
 
-pub ≤ℤ-total : (x y : ℤ) → (x ≤ℤ y) ⊎ (y <ℤ x)
+≤ℤ-total : (x y : ℤ) → (x ≤ℤ y) ⊎ (y <ℤ x)
 ≤ℤ-total x y = go (ltZ y x) (λ t. ltZ-yes t) (λ t. ltZ-no t)
   where
     go : (b : Bool) → (T b → y <ℤ x) → (T (not b) → x ≤ℤ y) → (x ≤ℤ y) ⊎ (y <ℤ x)
@@ -40,7 +34,7 @@ pub ≤ℤ-total : (x y : ℤ) → (x ≤ℤ y) ⊎ (y <ℤ x)
     go false f g = inl (g tt)
 
 -- ---- naturals as integers
-pub pos-le : {m n : ℕ} → m ≤ n → pos m ≤ℤ pos n
+pos-le : {m n : ℕ} → m ≤ n → pos m ≤ℤ pos n
 pos-le {m} {n} h = leZ-yes (le→leb m n h)
 
 pub pos-nonneg : (n : ℕ) → pos 0 ≤ℤ pos n
@@ -58,21 +52,18 @@ pub negℤ-≤ℤ : (x y : ℤ) → (negℤ x ≤ℤ negℤ y) ↔ (y ≤ℤ x)
 negℤ-≤ℤ x y = rw (as-dif x, as-dif y) (simp difs (omega arith))
 
 -- x ≤ y says that y − x is not negative
-pub sub-nonneg : (x y : ℤ) → (x ≤ℤ y) ↔ (pos 0 ≤ℤ (y -ℤ x))
+sub-nonneg : (x y : ℤ) → (x ≤ℤ y) ↔ (pos 0 ≤ℤ (y -ℤ x))
 sub-nonneg x y = rw (as-dif x, as-dif y) (simp difs (omega arith))
 
 -- ---- products
-pub *ℤ-nonneg : {x y : ℤ} → pos 0 ≤ℤ x → pos 0 ≤ℤ y → pos 0 ≤ℤ (x *ℤ y)
+*ℤ-nonneg : {x y : ℤ} → pos 0 ≤ℤ x → pos 0 ≤ℤ y → pos 0 ≤ℤ (x *ℤ y)
 *ℤ-nonneg {x = pos a} {y = pos b} h k = pos-nonneg (a * b)
 *ℤ-nonneg {x = pos a} {y = negsuc b} h k = absurd (k .le)
 *ℤ-nonneg {x = negsuc a} {y = y} h k = absurd (h .le)
 
--- a factor that is not negative, on the left and on the right
+-- a factor that is not negative
 pub *ℤ-mono-l : {x y c : ℤ} → pos 0 ≤ℤ c → x ≤ℤ y → (c *ℤ x) ≤ℤ (c *ℤ y)
 *ℤ-mono-l {x} {y} {c} hc h = sub-nonneg (c *ℤ x) (c *ℤ y) .1 (rw *ℤ--ℤ at (*ℤ-nonneg hc (sub-nonneg x y .0 h)))
-
-pub *ℤ-mono-r : {x y c : ℤ} → pos 0 ≤ℤ c → x ≤ℤ y → (x *ℤ c) ≤ℤ (y *ℤ c)
-*ℤ-mono-r {x} {y} {c} hc h = rw (*ℤ-comm x c, *ℤ-comm y c) (*ℤ-mono-l hc h)
 
 -- ---- facts about products to hand to `omegaℤ`, which by itself knows nothing of a product's sign
 pub square-nonneg : (x : ℤ) → pos 0 ≤ℤ (x *ℤ x)

@@ -1,11 +1,14 @@
--- Expressions over ℤ and their normal forms: `norm` multiplies an expression out, sorts its terms and collects them, and `norm-tot` says that the value stays.
--- The solvers of Solve stand on this file. To use them, nothing of it is needed but the signs `lit ⊕ ⊖ ⊗`, which Solve passes on.
+-- Expressions over ℤ and their normal forms: `norm` multiplies an expression out, sorts its terms and collects them,
+-- and `norm-tot` says that the value stays.
+-- The solvers of Solve stand on this file. To use them, nothing of it is needed but the signs `lit ⊕ ⊖ ⊗`, which
+-- Solve passes on.
 use mathlib.Core.Path.{_≡_, refl, sym, _∙_, ap, ap₂}
 use mathlib.Core.List.{List, [], _∷_}
 use Prim.Native.Nat.{ℕ, zero, suc, compare, Ordering, Ordering·lt, Ordering·eq, Ordering·gt}
 use lib.Dec.{T, isEq, eqb→eq}
 use lib.IntN.{ℤ, pos, negsuc, negℤ, _+ℤ_, _-ℤ_, _*ℤ_, +ℤ-assoc, +ℤ-idl, +ℤ-idr, negℤ-+ℤ, *ℤ-zero, zero-*ℤ}
-use Rattle.proof_integer.specs.Ring.{+ℤ-left-comm, *ℤ-assoc, *ℤ-left-comm, *ℤ-swap4, *ℤ-+ℤ, +ℤ-*ℤ, neg-*ℤ, one-*ℤ, *ℤ-1}
+use Rattle.proof_integer.specs.Ring.{+ℤ-left-comm, *ℤ-assoc, *ℤ-left-comm, *ℤ-swap4, *ℤ-+ℤ, +ℤ-*ℤ}
+use Rattle.proof_integer.specs.Ring.{neg-*ℤ, one-*ℤ, *ℤ-1}
 
 -- ---- expressions: variables by number, naturals, and + − ·
 infixl 6 _⊕_ _⊖_
@@ -63,7 +66,10 @@ mono-ins i (j ∷ m) ρ =
 
 mono-join : (m n : List ℕ) (ρ : List ℤ) → mono (join m n) ρ ≡ mono m ρ *ℤ mono n ρ
 mono-join [] n ρ = sym (one-*ℤ (mono n ρ))
-mono-join (i ∷ m) n ρ = mono-ins i (join m n) ρ ∙ ap (λ t. nth ρ i *ℤ t) (mono-join m n ρ) ∙ sym (*ℤ-assoc (nth ρ i) (mono m ρ) (mono n ρ))
+mono-join (i ∷ m) n ρ =
+    mono-ins i (join m n) ρ
+    ∙ ap (λ t. nth ρ i *ℤ t) (mono-join m n ρ)
+    ∙ sym (*ℤ-assoc (nth ρ i) (mono m ρ) (mono n ρ))
 
 -- the order of two monomials
 abbrev next : Ordering → Ordering → Ordering
@@ -91,7 +97,8 @@ cmp-eq : (m n : List ℕ) → T (isEq (cmp m n)) → m ≡ n
 cmp-eq [] [] t = refl
 cmp-eq [] (j ∷ n) t = absurd t
 cmp-eq (i ∷ m) [] t = absurd t
-cmp-eq (i ∷ m) (j ∷ n) t = ap₂ _∷_ (eqb→eq i j (next-first (compare i j) (cmp m n) t)) (cmp-eq m n (next-last (compare i j) (cmp m n) t))
+cmp-eq (i ∷ m) (j ∷ n) t =
+    ap₂ _∷_ (eqb→eq i j (next-first (compare i j) (cmp m n) t)) (cmp-eq m n (next-last (compare i j) (cmp m n) t))
 
 -- ---- polynomials: monomials in order, each with its coefficient, which is not 0
 pub data Poly : Type 0 where
@@ -134,7 +141,8 @@ place-tot Ordering·eq c m d n p r ρ e h =
     ∙ ap (λ t. t +ℤ tot p ρ) (+ℤ-*ℤ c d (mono n ρ))
     ∙ +ℤ-assoc (c *ℤ mono n ρ) (d *ℤ mono n ρ) (tot p ρ)
     ∙ ap (λ t. c *ℤ mono t ρ +ℤ (d *ℤ mono n ρ +ℤ tot p ρ)) (sym (e tt))
-place-tot Ordering·gt c m d n p r ρ e h = ap (λ t. d *ℤ mono n ρ +ℤ t) h ∙ +ℤ-left-comm (d *ℤ mono n ρ) (c *ℤ mono m ρ) (tot p ρ)
+place-tot Ordering·gt c m d n p r ρ e h =
+    ap (λ t. d *ℤ mono n ρ +ℤ t) h ∙ +ℤ-left-comm (d *ℤ mono n ρ) (c *ℤ mono m ρ) (tot p ρ)
 
 ins-tot : (c : ℤ) (m : List ℕ) (p : Poly) (ρ : List ℤ) → tot (ins c m p) ρ ≡ c *ℤ mono m ρ +ℤ tot p ρ
 ins-tot c m empty ρ = refl

@@ -1,5 +1,6 @@
 -- Bounds of |z| by a natural, and whether z fits a signed width. Reach for it where code must not overflow:
--- put the variables' bounds together as the expression is, and compare at the end, as in `bnd-sfits tt (h b* k b+ b-lit 3)`.
+-- put the variables' bounds together as the expression is, and compare at the end, as in
+-- `bnd-sfits tt (h b* k b+ b-lit 3)`.
 use mathlib.Core.Path.{_≡_, refl, ap}
 use mathlib.Core.Bool.{true}
 use Prim.Native.Nat.{ℕ, zero, suc, _+_, _*_, _^_, _<_, _≤_}
@@ -67,10 +68,13 @@ b-up {x} {a} {b} t h = record { bnd = le-trans (h .bnd) (leb→le a b t) }
 
 -- ---- the bound as two inequalities of ℤ
 pub bnd-between : {x : ℤ} {a : ℕ} → negℤ (pos a) ≤ℤ x → x ≤ℤ pos a → Bnd x a
-bnd-between {x} {a} h k = record { bnd = within x a (omega (arith, le→parts k)) (omega (arith, le→parts h, neg-up (pos a), neg-dn (pos a))) }
+bnd-between {x} {a} h k = record {
+  bnd = within x a (omega (arith, le→parts k)) (omega (arith, le→parts h, neg-up (pos a), neg-dn (pos a)));
+}
 
 pub between-bnd : {x : ℤ} {a : ℕ} → Bnd x a → (negℤ (pos a) ≤ℤ x) × (x ≤ℤ pos a)
-between-bnd {x} {a} h = (parts→le (omega (arith, neg-up (pos a), neg-dn (pos a), abs-parts x)), parts→le (omega (arith, abs-parts x)))
+between-bnd {x} {a} h =
+    (parts→le (omega (arith, neg-up (pos a), neg-dn (pos a), abs-parts x)), parts→le (omega (arith, abs-parts x)))
 
 -- ---- from and to a signed width; at a numeral the test computes, `bnd-sfits tt h`
 pub sfits-bnd : {w : Width} {z : ℤ} → SFits w z → Bnd z (2 ^ hbits w)
@@ -105,7 +109,9 @@ small-is w t h = toZ-pos w (small-fits {w = w} t h .sfits)
 
 -- any two ends that fit: what lies between them fits
 pub sfits-between : {w : Width} {lo hi z : ℤ} → SFits w lo → SFits w hi → lo ≤ℤ z → z ≤ℤ hi → SFits w z
-sfits-between {w} {lo} {hi} {z} l h p q = record { sfits = mags lo z hi (2 ^ hbits w) (l .sfits) (h .sfits) (p .le) (q .le) }
+sfits-between {w} {lo} {hi} {z} l h p q = record {
+  sfits = mags lo z hi (2 ^ hbits w) (l .sfits) (h .sfits) (p .le) (q .le);
+}
   where
     mags : (lo z hi : ℤ) (H : ℕ) → mag lo < H → mag hi < H → T (leZ lo z) → T (leZ z hi) → mag z < H
     mags lo (pos n) (pos b) H l h p q = omega (arith, leb→le n b q)

@@ -2,7 +2,8 @@
 -- For a whole identity use `simp ringℤ-rules` (small ones) or `ringℤ` of Solve.
 use mathlib.Core.Path.{_≡_, sym, _∙_, ap}
 use native.Mathlib.Omega.{arith}
-use lib.IntN.{ℤ, pos, negℤ, _+ℤ_, _-ℤ_, _*ℤ_, +ℤ-assoc, +ℤ-comm, +ℤ-idl, +ℤ-idr, +ℤ-invr, negℤ-+ℤ, negℤ-negℤ, *ℤ-comm, *ℤ-zero, zero-*ℤ}
+use lib.IntN.{ℤ, pos, negℤ, _+ℤ_, _-ℤ_, _*ℤ_, +ℤ-assoc, +ℤ-comm, +ℤ-idl, +ℤ-idr, +ℤ-invr, negℤ-+ℤ, negℤ-negℤ}
+use lib.IntN.{*ℤ-comm, *ℤ-zero, zero-*ℤ}
 use Rattle.proof_integer.specs.Parts.{difs, as-dif}
 
 -- ---- order and grouping of summands and factors
@@ -31,9 +32,6 @@ pub +ℤ-*ℤ : (x y z : ℤ) → (x +ℤ y) *ℤ z ≡ x *ℤ z +ℤ y *ℤ z
 pub *ℤ--ℤ : (x y z : ℤ) → x *ℤ (y -ℤ z) ≡ x *ℤ y -ℤ x *ℤ z
 *ℤ--ℤ x y z = rw (as-dif x, as-dif y, as-dif z) (simp difs (omega arith))
 
-pub -ℤ-*ℤ : (x y z : ℤ) → (x -ℤ y) *ℤ z ≡ x *ℤ z -ℤ y *ℤ z
--ℤ-*ℤ x y z = rw (as-dif x, as-dif y, as-dif z) (simp difs (omega arith))
-
 pub neg-*ℤ : (x y : ℤ) → negℤ x *ℤ y ≡ negℤ (x *ℤ y)
 neg-*ℤ x y = rw (as-dif x, as-dif y) (simp difs (omega arith))
 
@@ -60,4 +58,28 @@ pub +ℤ-neg-left : (x y : ℤ) → x +ℤ (negℤ x +ℤ y) ≡ y
 +ℤ-neg-left x y = rw (as-dif x, as-dif y) (simp difs (omega arith))
 
 -- `simp ringℤ-rules` multiplies both sides out and sorts them alike. It knows no numeral above 4
-pub ruleset ringℤ-rules = (+ℤ-assoc, +ℤ-comm, +ℤ-left-comm, +ℤ-idl, +ℤ-idr, +ℤ-invr, +ℤ-neg-left, negℤ-+ℤ, negℤ-negℤ, *ℤ-assoc, *ℤ-comm, *ℤ-left-comm, *ℤ-zero, zero-*ℤ, one-*ℤ, *ℤ-1, *ℤ-2, *ℤ-3, *ℤ-4, *ℤ-+ℤ, +ℤ-*ℤ, neg-*ℤ, *ℤ-neg)
+pub ruleset ringℤ-rules = (
+  +ℤ-assoc,
+  +ℤ-comm,
+  +ℤ-left-comm,
+  +ℤ-idl,
+  +ℤ-idr,
+  +ℤ-invr,
+  +ℤ-neg-left,
+  negℤ-+ℤ,
+  negℤ-negℤ,
+  *ℤ-assoc,
+  *ℤ-comm,
+  *ℤ-left-comm,
+  *ℤ-zero,
+  zero-*ℤ,
+  one-*ℤ,
+  *ℤ-1,
+  *ℤ-2,
+  *ℤ-3,
+  *ℤ-4,
+  *ℤ-+ℤ,
+  +ℤ-*ℤ,
+  neg-*ℤ,
+  *ℤ-neg,
+)

@@ -1,4 +1,5 @@
--- The two solvers. Restate the fact over n named variables in the signs `lit ⊕ ⊖ ⊗ ≋ ≼ ≺`; apply the result to terms where it is about terms.
+-- The two solvers. Restate the fact over n named variables in the signs `lit ⊕ ⊖ ⊗ ≋ ≼ ≺`; apply the result to terms
+-- where it is about terms.
 --   an identity, both sides being the same when multiplied out:     ringℤ n (λ x y. a ≋ b) tt
 --   a consequence, linear in its monomials when multiplied out:     omegaℤ n (λ x y. h ∷ k ∷ [] ⊢ g) (omega arith)
 use mathlib.Core.Path.{_≡_, refl, _∙_, ap}
@@ -7,11 +8,13 @@ use Prim.Native.Nat.{ℕ, zero, suc, _+_, _*_, _≤_, _<_}
 use native.Mathlib.Omega.{arith}
 use lib.IntN.{ℤ, pos, negsuc, _-ℤ_, _*ℤ_}
 use lib.Signed.{_≤ℤ_, _<ℤ_}
-use Rattle.proof_integer.specs.Parts.{difs, as-dif, up, dn, add-parts, sub-parts, mul-parts, parts, by-parts, le→parts, parts→le, lt→parts, parts→lt}
+use Rattle.proof_integer.specs.Parts.{difs, as-dif, up, dn, add-parts, sub-parts, mul-parts}
+use Rattle.proof_integer.specs.Parts.{parts, by-parts, le→parts, parts→le, lt→parts, parts→lt}
 use Rattle.proof_integer.specs.Polynomial.{Ex, var, ev, mono, Poly, empty, more, tot, norm, norm-tot}
 pub use Rattle.proof_integer.specs.Polynomial.{lit, _⊕_, _⊖_, _⊗_}
 
--- What a solver's type or refusal shows is `pub`. To use the solvers, only the signs, `never`, `ringℤ` and `omegaℤ` are written.
+-- What a solver's type or refusal shows is `pub`. To use the solvers, only the signs, `never`, `ringℤ` and `omegaℤ` are
+-- written.
 
 -- ---- relations of two expressions, and `never`, which nothing meets
 infix 4 _≋_ _≼_ _≺_
@@ -89,11 +92,13 @@ same-says (a ≼ b) ρ e = absurd e
 same-says (a ≺ b) ρ e = absurd e
 same-says never ρ e = absurd e
 
--- Where the sides differ, `tt` is refused, being no `Left`. With `?` for `tt`, `rt dev NAME --allow-holes` shows the polynomial that is left over
+-- Where the sides differ, `tt` is refused, being no `Left`. With `?` for `tt`, `rt dev NAME --allow-holes` shows the
+-- polynomial that is left over.
 pub ringℤ : (n : ℕ) (s : Exs n Rel) → Same (app n 0 s) → All n (Says (app n 0 s))
 ringℤ n s e = all-intro n (Says (app n 0 s)) (λ ρ. same-says (app n 0 s) ρ e)
 
--- ---- consequences: each relation, multiplied out, is read as one of naturals, whose unknowns are the two parts of each monomial
+-- ---- consequences: each relation, multiplied out, is read as one of naturals, whose unknowns are the two parts of
+-- each monomial
 -- a term c·z is hiT c z − loT c z
 abbrev loT : ℤ → ℤ → ℕ
 loT (pos c) z = c * dn z
@@ -121,7 +126,8 @@ poly-parts empty ρ = refl
 poly-parts (more c m p) ρ = omega (arith, add-parts (c *ℤ mono m ρ) (tot p ρ), term-parts c (mono m ρ), poly-parts p ρ)
 
 -- b − a by the parts of its normal form
-gap-parts : (a b : Ex) (ρ : List ℤ) → up (ev b ρ) + dn (ev a ρ) + lo (norm (b ⊖ a)) ρ ≡ up (ev a ρ) + dn (ev b ρ) + hi (norm (b ⊖ a)) ρ
+gap-parts : (a b : Ex) (ρ : List ℤ)
+    → up (ev b ρ) + dn (ev a ρ) + lo (norm (b ⊖ a)) ρ ≡ up (ev a ρ) + dn (ev b ρ) + hi (norm (b ⊖ a)) ρ
 gap-parts a b ρ = omega (
   arith,
   sub-parts (ev b ρ) (ev a ρ),
@@ -164,7 +170,8 @@ impN (h ∷ hs) g ρ r = λ e. impN hs g ρ (r (toN h ρ e))
 meansN : (s : Seq) (ρ : List ℤ) → MeansN s ρ → Means s ρ
 meansN (hs ⊢ g) ρ r = impN hs g ρ r
 
--- The goal `never` asks for a contradiction. Where `omega` fails, it names values of the monomials' parts at which the goal is false.
--- There may be at most 32 variables and hypotheses together
+-- The goal `never` asks for a contradiction. Where `omega` fails, it names values of the monomials' parts at which the
+-- goal is false.
+-- There may be at most 32 variables and hypotheses together.
 pub omegaℤ : (n : ℕ) (s : Exs n Seq) → All n (MeansN (app n 0 s)) → All n (Means (app n 0 s))
 omegaℤ n s r = all-map n (MeansN (app n 0 s)) (Means (app n 0 s)) (meansN (app n 0 s)) r

@@ -1,4 +1,5 @@
--- Finite sums of integers: `sumTo n f` is Σ_{j<n} f j. Their laws: linear, monotone, bounded, and two sums in either order.
+-- Finite sums of integers: `sumTo n f` is Σ_{j<n} f j. Their laws: linear, monotone, bounded, and two
+-- sums in either order.
 use mathlib.Core.Path.{_≡_, refl, sym, _∙_, ap, ap₂}
 use Prim.Native.Nat.{ℕ, zero, suc, _*_, _<_, _≤_}
 use native.Mathlib.Omega.{arith}
@@ -76,7 +77,9 @@ sumTo-telescope (suc n) f = ap (λ t. t +ℤ (f (suc n) -ℤ f n)) (sumTo-telesc
 pub sumTo-swap : (n m : ℕ) (f : ℕ → ℕ → ℤ) → sumTo n (λ i. sumTo m (λ j. f i j)) ≡ sumTo m (λ j. sumTo n (λ i. f i j))
 unfolding sumTo
 sumTo-swap zero m f = sym (sumTo-none m)
-sumTo-swap (suc n) m f = ap (λ t. t +ℤ sumTo m (λ j. f n j)) (sumTo-swap n m f) ∙ sym (sumTo-add m (λ j. sumTo n (λ i. f i j)) (λ j. f n j))
+sumTo-swap (suc n) m f =
+    ap (λ t. t +ℤ sumTo m (λ j. f n j)) (sumTo-swap n m f)
+    ∙ sym (sumTo-add m (λ j. sumTo n (λ i. f i j)) (λ j. f n j))
 
 -- ---- comparisons, place by place
 pub sumTo-mono : (n : ℕ) (f g : ℕ → ℤ) → ((j : ℕ) → j < n → f j ≤ℤ g j) → sumTo n f ≤ℤ sumTo n g
@@ -84,11 +87,8 @@ unfolding sumTo
 sumTo-mono zero f g h = ≤ℤ-refl (pos 0)
 sumTo-mono (suc n) f g h = +ℤ-mono (sumTo-mono n f g (λ j l. h j (le-step l))) (h n (le-refl (suc n)))
 
-pub sumTo-nonneg : (n : ℕ) (f : ℕ → ℤ) → ((j : ℕ) → j < n → pos 0 ≤ℤ f j) → pos 0 ≤ℤ sumTo n f
-sumTo-nonneg n f h = rw (sumTo-none n) at (sumTo-mono n (λ j. pos 0) f h)
-
 -- ---- bounds: if each |f j| ≤ B, then |Σ_{j<n} f j| ≤ n·B
-pub sumTo-abs : (n B : ℕ) (f : ℕ → ℤ) → ((j : ℕ) → j < n → natAbs (f j) ≤ B) → natAbs (sumTo n f) ≤ n * B
+sumTo-abs : (n B : ℕ) (f : ℕ → ℤ) → ((j : ℕ) → j < n → natAbs (f j) ≤ B) → natAbs (sumTo n f) ≤ n * B
 unfolding sumTo
 sumTo-abs zero B f h = omega arith
 sumTo-abs (suc n) B f h =

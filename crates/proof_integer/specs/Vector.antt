@@ -1,4 +1,5 @@
--- Vectors. A function `f : ℕ → A` gives each element, `tabulate n f` is the list of the first n, and `at` reads a list of integers back, 0 past its end.
+-- Vectors. A function `f : ℕ → A` gives each element, `tabulate n f` is the list of the first n, and `at` reads a list
+-- of integers back, 0 past its end.
 use mathlib.Core.Path.{_≡_, refl, ap, ap₂}
 use mathlib.Core.List.{_∷_}
 use Prim.Native.Nat.{ℕ, zero, suc, _<_, zero-le, suc-le-suc}
@@ -26,4 +27,6 @@ at-tabulate n f i h = getD-tabulate n f i (pos 0) h
 pub tabulate-cong {ℓ} : {A : Type ℓ} (n : ℕ) (f g : ℕ → A) → ((i : ℕ) → i < n → f i ≡ g i) → tabulate n f ≡ tabulate n g
 unfolding tabulate
 tabulate-cong zero f g h = refl
-tabulate-cong (suc n) f g h = ap₂ _∷_ (h 0 (suc-le-suc zero-le)) (tabulate-cong n (λ i. f (suc i)) (λ i. g (suc i)) (λ i l. h (suc i) (suc-le-suc l)))
+tabulate-cong (suc n) f g h =
+    ap₂ _∷_ (h 0 (suc-le-suc zero-le))
+    (tabulate-cong n (λ i. f (suc i)) (λ i. g (suc i)) (λ i l. h (suc i) (suc-le-suc l)))

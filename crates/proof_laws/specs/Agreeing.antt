@@ -8,7 +8,8 @@ use Rattle.proof_integer.specs.Sum.{sumTo-cong}
 use Rattle.proof_integer.specs.Vector.{tabulate-cong}
 use Rattle.rules.specs.Notation.{maxℤ, sumTo, tabulate, at}
 use Rattle.rules.specs.Problem.{Problem, costOf, loadOf}
-use Rattle.rules.specs.Step.{State, anyBelow, reducedCost, amount, residual, dualValue, lookAt, greatestCost, infeasible, moved, next, diverged}
+use Rattle.rules.specs.Step.{State, anyBelow, reducedCost, amount, residual, dualValue, lookAt, greatestCost}
+use Rattle.rules.specs.Step.{infeasible, moved, next, diverged}
 use Rattle.rules.specs.Run.{startingMultiplier, start, stateAfter, lookAfter, lowAfter, gapOf, planAfter}
 use Rattle.rules.specs.Refusals.{refuse, _otherwise_}
 use Rattle.rules.specs.Answers.{refusalAt, stepRefusal}
@@ -28,16 +29,20 @@ pub record Agree (P Q : Problem) : Type 0 where
 
 module _ {P Q : Problem} (same : Agree P Q) where
   -- ---- sums and lists over the materials, and over the limits
-  over-materials : (f g : ℕ → ℤ) → ((j : ℕ) → j < Q .materials → f j ≡ g j) → sumTo (P .materials) f ≡ sumTo (Q .materials) g
+  over-materials : (f g : ℕ → ℤ) → ((j : ℕ) → j < Q .materials → f j ≡ g j)
+      → sumTo (P .materials) f ≡ sumTo (Q .materials) g
   over-materials f g h = (λ k. sumTo (same .materials k) f) ∙ sumTo-cong (Q .materials) f g h
 
-  over-limits : (f g : ℕ → ℤ) → ((i : ℕ) → i < Q .limits → f i ≡ g i) → sumTo (P .limits) f ≡ sumTo (Q .limits) g
+  over-limits : (f g : ℕ → ℤ) → ((i : ℕ) → i < Q .limits → f i ≡ g i)
+      → sumTo (P .limits) f ≡ sumTo (Q .limits) g
   over-limits f g h = (λ k. sumTo (same .limits k) f) ∙ sumTo-cong (Q .limits) f g h
 
-  by-materials : (f g : ℕ → ℤ) → ((j : ℕ) → j < Q .materials → f j ≡ g j) → tabulate (P .materials) f ≡ tabulate (Q .materials) g
+  by-materials : (f g : ℕ → ℤ) → ((j : ℕ) → j < Q .materials → f j ≡ g j)
+      → tabulate (P .materials) f ≡ tabulate (Q .materials) g
   by-materials f g h = (λ k. tabulate (same .materials k) f) ∙ tabulate-cong (Q .materials) f g h
 
-  by-limits : (f g : ℕ → ℤ) → ((i : ℕ) → i < Q .limits → f i ≡ g i) → tabulate (P .limits) f ≡ tabulate (Q .limits) g
+  by-limits : (f g : ℕ → ℤ) → ((i : ℕ) → i < Q .limits → f i ≡ g i)
+      → tabulate (P .limits) f ≡ tabulate (Q .limits) g
   by-limits f g h = (λ k. tabulate (same .limits k) f) ∙ tabulate-cong (Q .limits) f g h
 
   -- ---- the formulas of a step; x and y are amounts that are the same at every material
@@ -85,11 +90,17 @@ module _ {P Q : Problem} (same : Agree P Q) where
   nexts w =
       let M = at (w .multipliers) in
       let q = looks M in
-      let moves = by-limits (moved P M (at (lookAt P M .residuals))) (moved Q M (at (lookAt Q M .residuals)))
+      let moves = by-limits
+      (moved P M (at (lookAt P M .residuals)))
+      (moved Q M (at (lookAt Q M .residuals)))
       (λ i _ k. maxℤ (pos 0) (M i +ℤ pos (same .numerator k) *ℤ at (q k .residuals) i)) in
-      let sums = by-materials (λ j. at (w .sums) j +ℤ at (lookAt P M .amounts) j) (λ j. at (w .sums) j +ℤ at (lookAt Q M .amounts) j)
+      let sums = by-materials
+      (λ j. at (w .sums) j +ℤ at (lookAt P M .amounts) j)
+      (λ j. at (w .sums) j +ℤ at (lookAt Q M .amounts) j)
       (λ j _ k. at (w .sums) j +ℤ at (q k .amounts) j) in
-      let totals = by-limits (λ i. at (w .residualTotals) i +ℤ at (lookAt P M .residuals) i) (λ i. at (w .residualTotals) i +ℤ at (lookAt Q M .residuals) i)
+      let totals = by-limits
+      (λ i. at (w .residualTotals) i +ℤ at (lookAt P M .residuals) i)
+      (λ i. at (w .residualTotals) i +ℤ at (lookAt Q M .residuals) i)
       (λ i _ k. at (w .residualTotals) i +ℤ at (q k .residuals) i) in
       λ k. record {
         multipliers = moves k;
@@ -122,9 +133,11 @@ module _ {P Q : Problem} (same : Agree P Q) where
       first-cong k _ _
       (λ t _ i.
       refuse 9 t (ltZ (pos (same .scale i) *ℤ greatest-costs i) (looks-at t i .dualValue))
-      otherwise refuse 10 t (anyBelow (same .limits i) (λ j. ltZ (pos 1073741824) (at (states (suc t) i .multipliers) j))))
+      otherwise refuse 10 t
+      (anyBelow (same .limits i) (λ j. ltZ (pos 1073741824) (at (states (suc t) i .multipliers) j))))
 
-  gaps : (k : ℕ) → gapOf P k (lowAfter P k) (at (stateAfter P k .sums)) ≡ gapOf Q k (lowAfter Q k) (at (stateAfter Q k .sums))
+  gaps : (k : ℕ)
+      → gapOf P k (lowAfter P k) (at (stateAfter P k .sums)) ≡ gapOf Q k (lowAfter Q k) (at (stateAfter Q k .sums))
   unfolding gapOf lowAfter
   gaps k =
       let cost = costs (at (stateAfter P k .sums)) (at (stateAfter Q k .sums)) (λ j _ i. at (states k i .sums) j) in

@@ -1,4 +1,4 @@
--- Entries: a key is row × 64 + column, a row and a column decide a kind of figure, and a good key stands for one.
+-- Entries: the row and the column of a key (T3.1) decide a kind of figure (T3.2), and a good key stands for one.
 use mathlib.Core.Path.{_≡_, refl}
 use mathlib.Core.Bool.{Bool, true, false, not, cond, _&&_, _||_}
 use Prim.Native.Nat.{ℕ, suc, _+_, _<_, _≤_}

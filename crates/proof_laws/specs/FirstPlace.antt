@@ -1,4 +1,5 @@
--- The chain of refusals and the first place, as code meets them: a test that passes hands on, and a loop ends at the first place that is refused.
+-- The chain of refusals and the first place (T7.3), as code meets them: a test that passes hands on, and a loop ends at
+-- the first place that is refused.
 use mathlib.Core.Path.{_≡_, refl, ap₂}
 use mathlib.Core.Bool.{Bool, true, false}
 use mathlib.Core.Option.{Option, none, some}
@@ -8,9 +9,10 @@ use native.Mathlib.Nat.{eq-or-lt-of-le, le-of-suc-le-suc, not-suc-le-zero, le-st
 use native.Mathlib.Numerals.{add-one}
 use Rattle.rules.specs.Refusals.{Numbered, refuse, _otherwise_, firstBelow}
 
--- ---- a row of the table
+-- ---- one refusal, with its number and its place
 module _ (number place : ℕ) where
-  pub refuse-yes : {test : Bool} → test ≡ true → refuse number place test ≡ some (record { number = number; place = place })
+  pub refuse-yes : {test : Bool} → test ≡ true
+      → refuse number place test ≡ some (record { number = number; place = place })
   unfolding refuse
   refuse-yes h = rw h
 
@@ -27,17 +29,14 @@ pub handed-on : {a : Option Numbered} (b : Option Numbered) → a ≡ none → a
 unfolding _otherwise_
 handed-on b h = rw h
 
-pub regrouped : (a b c : Option Numbered) → (a otherwise b) otherwise c ≡ a otherwise b otherwise c
-unfolding _otherwise_
-regrouped none b c = refl
-regrouped (some r) b c = refl
-
 -- ---- the first place
 -- only the places below n count
-pub first-cong : (n : ℕ) (test other : ℕ → Option Numbered) → ((i : ℕ) → i < n → test i ≡ other i) → firstBelow n test ≡ firstBelow n other
+pub first-cong : (n : ℕ) (test other : ℕ → Option Numbered) → ((i : ℕ) → i < n → test i ≡ other i)
+    → firstBelow n test ≡ firstBelow n other
 unfolding firstBelow
 first-cong zero test other h = refl
-first-cong (suc n) test other h = ap₂ _otherwise_ (first-cong n test other (λ i l. h i (le-step l))) (h n (lt-suc-self n))
+first-cong (suc n) test other h =
+    ap₂ _otherwise_ (first-cong n test other (λ i l. h i (le-step l))) (h n (lt-suc-self n))
 
 module _ (test : ℕ → Option Numbered) where
   pub first-start : firstBelow 0 test ≡ none
@@ -48,7 +47,8 @@ module _ (test : ℕ → Option Numbered) where
   unfolding firstBelow _otherwise_
   first-more {j} before here = rw (add-one, before) here
 
-  pub first-found : {j : ℕ} {r : Numbered} (n : ℕ) → j < n → firstBelow j test ≡ none → test j ≡ some r → firstBelow n test ≡ some r
+  pub first-found : {j : ℕ} {r : Numbered} (n : ℕ) → j < n → firstBelow j test ≡ none → test j ≡ some r
+      → firstBelow n test ≡ some r
   unfolding firstBelow _otherwise_
   first-found zero l before here = absurd (not-suc-le-zero l)
   first-found {j} (suc n) l before here = elim (eq-or-lt-of-le (le-of-suc-le-suc l)) [
@@ -67,5 +67,6 @@ module _ (number : ℕ) (bad : ℕ → Bool) where
   pub scan-more : {j : ℕ} → scan j ≡ none → bad j ≡ false → scan (j + 1) ≡ none
   scan-more {j} before here = first-more (λ i. refuse number i (bad i)) before (refuse-no number j here)
 
-  pub scan-found : {j : ℕ} (n : ℕ) → j < n → scan j ≡ none → bad j ≡ true → scan n ≡ some (record { number = number; place = j })
+  pub scan-found : {j : ℕ} (n : ℕ) → j < n → scan j ≡ none → bad j ≡ true
+      → scan n ≡ some (record { number = number; place = j })
   scan-found {j} n l before here = first-found (λ i. refuse number i (bad i)) n l before (refuse-yes number j here)

@@ -1,4 +1,4 @@
--- The ranges of n, m and e, read off their test; and the length of the header.
+-- The ranges of n, m and e (T2.6), read off their test; and the length of the header.
 use mathlib.Core.Path.{_≡_}
 use mathlib.Core.Bool.{true}
 use Prim.Native.Nat.{ℕ, _+_, _*_, _≤_}

@@ -1,5 +1,4 @@
--- What a sheet that follows the layout has: its sizes and its figures in their ranges, and no least amount above
--- the most.
+-- What a sheet that is read (T7.5) has: its sizes and its figures in their ranges, and no least amount above the most.
 -- For a figure is 0 or the value of an entry, and the value of every entry passed the test of its range.
 use mathlib.Core.Path.{_≡_, refl}
 use mathlib.Core.Bool.{Bool, true, false, not, cond}
@@ -22,14 +21,16 @@ use Rattle.rules.specs.declared.Range.{Range}
 use Rattle.rules.specs.declared.Shape.{Shape}
 use Rattle.rules.specs.Problem.{Problem}
 use Rattle.rules.specs.Sheet.{Sheet, sheetOf, keyOf, rowOf, columnOf, valueUnder, tableOf, problemFrom, problem}
-use Rattle.rules.specs.Ranges.{_from_to_, ranges, indexOf, rangeOf, kindAt, inRange, between, dimensionsInRange, parametersInRange}
+use Rattle.rules.specs.Ranges.{_from_to_, ranges, indexOf, rangeOf, kindAt, inRange}
+use Rattle.rules.specs.Ranges.{between, dimensionsInRange, parametersInRange}
 use Rattle.rules.specs.Run.{startingMultiplier}
 use Rattle.rules.specs.Refusals.{valueBad, badValue, crossed, sizesRefusal, valueRefusal, boundRefusal, layoutRefusal}
 use Rattle.proof_laws.specs.Entries.{key-parts, coefficient-kind, rhs-kind}
 use Rattle.proof_laws.specs.Agreeing.{Agree}
 use Rattle.proof_laws.specs.NotRefused.{otherwise-none, refuse-none, first-none}
 
--- The ranges of a problem and of its step count k.
+-- The ranges of a problem and of its step count k (T2.6 and T3.2), each with both its ends, whether or not a proof
+-- needs them.
 pub record Accepted (P : Problem) (k : ℕ) : Type 0 where
   pub materials-some : 1 ≤ P .materials
   pub materials-few : P .materials ≤ 32
@@ -41,13 +42,13 @@ pub record Accepted (P : Problem) (k : ℕ) : Type 0 where
   pub steps-some : 1 ≤ k
   pub steps-few : k ≤ 4096
   pub cost-in : (j : ℕ) → j < P .materials → Bnd (P .cost j) 10000
-  -- 0 ≤ l_j ≤ u_j ≤ 1,000: the table's range begins at 1, but an amount that has no entry is 0
+  -- 0 ≤ l_j ≤ u_j ≤ 1,000: the range of T3.2 begins at 1, but an amount that has no entry is 0 (T3.3)
   pub least-sign : (j : ℕ) → j < P .materials → pos 0 ≤ℤ P .least j
   pub ordered : (j : ℕ) → j < P .materials → P .least j ≤ℤ P .most j
   pub most-in : (j : ℕ) → j < P .materials → P .most j ≤ℤ pos 1000
   pub coefficient-in : (i : ℕ) → i < P .limits → (j : ℕ) → j < P .materials → Bnd (P .coefficient i j) 1000
   pub rhs-in : (i : ℕ) → i < P .limits → Bnd (P .rhs i) 32000000
-  -- the start: 0 ≤ M_i ≤ 2³⁰
+  -- the start (T4.1): 0 ≤ M_i ≤ 2³⁰
   pub start-sign : (i : ℕ) → i < P .limits → pos 0 ≤ℤ startingMultiplier P i
   pub start-top : (i : ℕ) → i < P .limits → startingMultiplier P i ≤ℤ pos 1073741824
 
@@ -58,7 +59,7 @@ record Passed (S : Sheet) : Type 0 where
   values : (i : ℕ) → i < S .entries → T (not (badValue S i))
   bounds : (j : ℕ) → j < S .sizes .shape .materials → T (not (crossed (tableOf S) j))
 
--- the chain of refusals 1 to 7, link by link
+-- the chain of refusals 1 to 7 (T7.3), link by link
 passed : (s : List ℕ) → layoutRefusal s ≡ none → Passed (sheetOf s)
 unfolding layoutRefusal sizesRefusal valueRefusal boundRefusal
 passed s h =
@@ -104,7 +105,8 @@ module _ (S : Sheet) (key : ℕ) (Q : ℤ → Type 0) (absent : Q (pos 0)) where
   unfolding valueUnder
   value-cases zero present = absent
   value-cases (suc e) present =
-      last (eqb (S .key e) key) (λ t. present e (lt-suc-self e) (eqb-yes t)) (value-cases e (λ i l. present i (le-step l)))
+      last (eqb (S .key e) key) (λ t. present e (lt-suc-self e) (eqb-yes t))
+      (value-cases e (λ i l. present i (le-step l)))
     where
       last : (b : Bool) → (T b → Q (S .value e)) → Q (valueUnder S e key) → Q (cond b (S .value e) (valueUnder S e key))
       last true here before = here tt
@@ -144,7 +146,8 @@ module _ (S : Sheet) (h : Passed S) where
         (λ v w. let s = rw e at w in bnd-between (s .low) (s .high))
 
   ranged : Accepted (problem S) (S .sizes .steps)
-  unfolding problemFrom dimensionsInRange parametersInRange between kindAt rangeOf ranges indexOf crossed startingMultiplier
+  unfolding problemFrom dimensionsInRange parametersInRange between kindAt rangeOf ranges indexOf crossed
+      startingMultiplier
   ranged = record {
     materials-some = search parts;
     materials-few = search parts;
@@ -156,7 +159,8 @@ module _ (S : Sheet) (h : Passed S) where
     steps-some = search parts;
     steps-few = search parts;
     cost-in = λ j l. figure-bnd 0 j (le-of-lt l) 10000 refl;
-    least-sign = λ j l. figure-cases 1 j (le-of-lt l) (λ v. pos 0 ≤ℤ v) (leZ-yes tt) (λ v w. ≤ℤ-trans (leZ-yes tt) (w .low));
+    least-sign = λ j l.
+        figure-cases 1 j (le-of-lt l) (λ v. pos 0 ≤ℤ v) (leZ-yes tt) (λ v w. ≤ℤ-trans (leZ-yes tt) (w .low));
     ordered = λ j l. ltZ-no (h .bounds j l);
     most-in = λ j l. figure-cases 2 j (le-of-lt l) (λ v. v ≤ℤ pos 1000) (leZ-yes tt) (λ v w. w .high);
     coefficient-in = λ i _ j l. figure-bnd (3 + i) j (le-of-lt l) 1000 (coefficient-range shape i j l);
@@ -165,7 +169,7 @@ module _ (S : Sheet) (h : Passed S) where
     start-top = λ i _. leZ-yes tt;
   }
 
--- Where no refusal of the layout is given, the problem of the sheet and its step count lie in their ranges.
+-- Where none of refusals 1 to 7 is given, the problem of the sheet and its step count lie in their ranges.
 pub accepted : (s : List ℕ) → layoutRefusal s ≡ none → Accepted (problem (sheetOf s)) (sheetOf s .sizes .steps)
 accepted s h = ranged (sheetOf s) (passed s h)
 

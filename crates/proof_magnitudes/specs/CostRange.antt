@@ -1,4 +1,4 @@
--- The cheapest and the greatest cost that the bounds allow: no point within the bounds costs less, and none costs more.
+-- The cheapest and the greatest cost that the bounds leave (T4.6): no point within them costs less, and none more.
 use mathlib.Core.Bool.{cond}
 use Prim.Native.Nat.{ℕ}
 use lib.IntN.{ℤ, pos, negℤ, _*ℤ_}
@@ -37,7 +37,10 @@ module _ (P : Problem) where
     -- c·y ≤ d·greatest
     pub cost-below : costOf P y ≤ℤ (d *ℤ greatestCost P)
     unfolding greatestCost costOf
-    cost-below = negℤ-≤ℤ _ _ .0 (simp (neg-*ℤ, sumTo-neg, *ℤ-neg) at (sum-least P (λ j. negℤ (P .cost j)) greatestEnd greatest-minimal d y within))
+    cost-below =
+        negℤ-≤ℤ _ _ .0
+        (simp (neg-*ℤ, sumTo-neg, *ℤ-neg) at
+        (sum-least P (λ j. negℤ (P .cost j)) greatestEnd greatest-minimal d y within))
 
 -- z lies from D times the cheapest to D times the greatest cost
 pub record InCostRange (P : Problem) (z : ℤ) : Type 0 where

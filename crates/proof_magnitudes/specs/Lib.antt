@@ -1,13 +1,15 @@
--- How large the figures of a run become, of every sheet that is read. The code rests on this, and not on the theorem of demand 3.
+-- How large the figures of a run become (T5.6), of every sheet that is read. The code rests on this, and not on the
+-- theorem of T9.3 to T9.7.
 --   Accepted        the ranges of a sheet that is read
 --   Minimal         which end of its bounds a material takes: source document 004, equation (8)
---   CostRange       the cheapest and the greatest cost that the bounds allow
+--   CostRange       the cheapest and the greatest cost that the bounds leave
 --   Steps           the run's looks and totals, by their formulas
 --   Opening         low before any step
 --   Magnitudes      the figures of a step
 --   RunMagnitudes   the figures of a run: `magnitudes`, by a sheet's bytes, and `run-magnitudes`, by its figures
 --   PlanFits        the figures of a plan fit the bytes that a record has for them
--- Of a step, M are the multipliers that enter it (times D), and x its amounts. A point y/d has the whole amounts y over the divisor d.
+-- Of a step, M are the multipliers that enter it (times D), and x its amounts. A point y/d has the
+-- whole amounts y over the divisor d.
 pub mod Accepted
 pub mod Minimal
 pub mod CostRange

@@ -1,4 +1,5 @@
--- Where a linear function Σ_j w_j·x_j is least over the bounds: at the ends that the signs of the w_j pick, and at either end where w_j is 0.
+-- Where a linear function Σ_j w_j·x_j is least over the bounds: at the ends that the signs of the w_j pick, and at
+-- either end where w_j is 0.
 -- For the reduced costs w_j this is the minimum of source document 004, equation (8), with any rule for ties.
 use mathlib.Core.Path.{_≡_, refl, sym}
 use mathlib.Core.Bool.{Bool, true, false, not, cond}
@@ -22,15 +23,17 @@ pub data Minimal (w l u x : ℤ) : Type 0 where
   least : pos 0 ≤ℤ w → x ≡ l → Minimal w l u x
 
 -- the end that a test picks, where it picks u only at w ≤ 0, and l only at w ≥ 0
-pub choice-minimal : (test : Bool) (w l u : ℤ) → (T test → w ≤ℤ pos 0) → (T (not test) → pos 0 ≤ℤ w) → Minimal w l u (cond test u l)
+pub choice-minimal : (test : Bool) (w l u : ℤ) → (T test → w ≤ℤ pos 0) → (T (not test) → pos 0 ≤ℤ w)
+    → Minimal w l u (cond test u l)
 choice-minimal true w l u nonpos nonneg = most (nonpos tt) refl
 choice-minimal false w l u nonpos nonneg = least (nonneg tt) refl
 
--- as the test of rule 1 does: u where w is below 0, else l
+-- as the test of T4.3 does: u where w is below 0, else l
 pub rule-minimal : (w l u : ℤ) → Minimal w l u (cond (ltZ w (pos 0)) u l)
 rule-minimal w l u = choice-minimal (ltZ w (pos 0)) w l u (λ t. <ℤ→≤ℤ (ltZ-yes t)) (λ t. ltZ-no t)
 
--- no amount y/d between the bounds has a smaller term: d·(w·x) ≤ w·y, by the product of two differences that are not negative
+-- no amount y/d between the bounds has a smaller term: d·(w·x) ≤ w·y, by the product of two
+-- differences that are not negative
 falling : (w u d y : ℤ) → pos 0 ≤ℤ ((pos 0 -ℤ w) *ℤ (d *ℤ u -ℤ y)) → (d *ℤ (w *ℤ u)) ≤ℤ (w *ℤ y)
 falling = omegaℤ 4 (λ w u d y. (lit 0 ≼ (lit 0 ⊖ w) ⊗ (d ⊗ u ⊖ y)) ∷ [] ⊢ d ⊗ (w ⊗ u) ≼ w ⊗ y) (omega arith)
 
@@ -63,7 +66,8 @@ feasible-within f = record { above = f .above; below = f .below }
 pub sum-least : (P : Problem) (w x : ℕ → ℤ) → AllMinimal P w x → (d : ℤ) (y : ℕ → ℤ) → WithinBounds P d y
     → (d *ℤ sumTo (P .materials) (λ j. w j *ℤ x j)) ≤ℤ sumTo (P .materials) (λ j. w j *ℤ y j)
 sum-least P w x minimal d y within =
-    simp (← sumTo-scale) (sumTo-mono (P .materials) _ _ (λ j l. term-least (minimal j l) d (y j) (within .above j l) (within .below j l)))
+    simp (← sumTo-scale) (sumTo-mono (P .materials) _ _ (λ j l.
+    term-least (minimal j l) d (y j) (within .above j l) (within .below j l)))
 
 -- and such amounts lie within the bounds themselves
 pub minimal-within : {P : Problem} {w x : ℕ → ℤ}

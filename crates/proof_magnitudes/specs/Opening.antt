@@ -1,4 +1,4 @@
--- Low before any step: at multipliers of 0 the dual value is D times the cheapest cost that the bounds allow.
+-- Low before any step: at multipliers of 0 the dual value is D times the cheapest cost that the bounds leave.
 use mathlib.Core.Path.{_≡_, refl, sym, ap, _∙_}
 use mathlib.Core.Bool.{true, cond}
 use Prim.Native.Nat.{ℕ, zero, suc, _*_, _≤_, zero-le}
@@ -33,10 +33,12 @@ module _ (P : Problem) (scale-some : 1 ≤ P .scale) where
   amount-at-zero : (j : ℕ) → amount P (λ _. pos 0) j ≡ cheapestEnd P j
   unfolding amount reducedCost
   amount-at-zero j =
-      simp (zero-*ℤ, sumTo-none, +ℤ-idr) (ap (λ b. cond b (P .most j) (P .least j)) (same-sign (P .scale) (P .cost j) scale-some))
+      simp (zero-*ℤ, sumTo-none, +ℤ-idr)
+      (ap (λ b. cond b (P .most j) (P .least j)) (same-sign (P .scale) (P .cost j) scale-some))
 
   pub opening-low : stateAfter P 0 .lowerBound ≡ pos (P .scale) *ℤ cheapestCost P
   unfolding stateAfter start startingMultiplier cheapestCost costOf
   opening-low =
       at-zero P (amount P (λ _. pos 0))
-      ∙ ap (λ z. pos (P .scale) *ℤ z) (sumTo-cong (P .materials) _ _ (λ j _. ap (λ x. P .cost j *ℤ x) (amount-at-zero j)))
+      ∙ ap (λ z. pos (P .scale) *ℤ z)
+      (sumTo-cong (P .materials) _ _ (λ j _. ap (λ x. P .cost j *ℤ x) (amount-at-zero j)))

@@ -1,4 +1,4 @@
--- The figures of a plan fit the bytes that a record has for them.
+-- The figures of a plan fit the bytes that a record has for them (T6.1).
 use mathlib.Core.Path.{_≡_}
 use mathlib.Core.Option.{none}
 use Prim.Native.Nat.{ℕ, _<_}
@@ -16,7 +16,7 @@ use Rattle.proof_laws.specs.Lengths.{multipliers-length, sums-length, totals-le
 use Rattle.proof_magnitudes.specs.Accepted.{Accepted}
 use Rattle.proof_magnitudes.specs.RunMagnitudes.{run-magnitudes}
 
--- the figures of a plan are as many as its sizes say, and each fits the bytes that a record has for it
+-- the figures are as many as the plan's sizes say, and each fits its bytes
 pub record PlanFits (p : Plan) : Type 0 where
   pub materials : p .materials < 65536
   pub limits : p .limits < 65536

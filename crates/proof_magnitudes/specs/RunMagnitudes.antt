@@ -1,5 +1,5 @@
 -- How large the figures of a run become, as long as no step is refused: of every state, and of the step that it enters.
--- Low lies from D times the cheapest to D times the greatest cost that the bounds allow.
+-- Low lies from D times the cheapest to D times the greatest cost that the bounds leave (T4.6).
 use mathlib.Core.Path.{_≡_}
 use mathlib.Core.Bool.{not}
 use mathlib.Core.List.{List}
@@ -22,21 +22,25 @@ use Rattle.rules.specs.Refusals.{firstBelow, layoutRefusal}
 use Rattle.rules.specs.Answers.{refusalAt, stepRefusal}
 use Rattle.proof_magnitudes.specs.Minimal.{minimal-within}
 use Rattle.proof_magnitudes.specs.Opening.{at-zero}
-use Rattle.proof_magnitudes.specs.CostRange.{cheapestEnd, greatestEnd, cheapest-minimal, greatest-minimal, InCostRange, cost-in-range}
+use Rattle.proof_magnitudes.specs.CostRange.{cheapestEnd, greatestEnd, cheapest-minimal, greatest-minimal}
+use Rattle.proof_magnitudes.specs.CostRange.{InCostRange, cost-in-range}
 use Rattle.proof_laws.specs.Below.{any-none}
 use Rattle.proof_laws.specs.NotRefused.{otherwise-none, refuse-none}
-use Rattle.proof_magnitudes.specs.Steps.{entering, amounts, residuals, residuals-are, rule-1, amounts-minimal, entering-sign, sums-are, totals-are}
+use Rattle.proof_magnitudes.specs.Steps.{entering, amounts, residuals, residuals-are, rule-1, amounts-minimal}
+use Rattle.proof_magnitudes.specs.Steps.{entering-sign, sums-are, totals-are}
 use Rattle.proof_magnitudes.specs.Accepted.{Accepted, accepted}
-use Rattle.proof_magnitudes.specs.Magnitudes.{Fits64, fit, CostMagnitudes, StepMagnitudes, amounts-bnd, cost-magnitudes, residual-bnd, step-magnitudes}
+use Rattle.proof_magnitudes.specs.Magnitudes.{Fits64, fit, CostMagnitudes, StepMagnitudes}
+use Rattle.proof_magnitudes.specs.Magnitudes.{amounts-bnd, cost-magnitudes, residual-bnd, step-magnitudes}
 
--- The state after t steps, and what the gap is formed from.
+-- The state after t steps (T4.9), and what the gap is formed from.
 pub record StateMagnitudes (P : Problem) (t : ℕ) : Type 0 where
   pub multiplier : (i : ℕ) → i < P .limits → Fits64 (entering P t i) 1073741824
   pub sum : (j : ℕ) → j < P .materials → Fits64 (at (stateAfter P t .sums) j) 4096000
   pub residual-total : (i : ℕ) → i < P .limits → Fits64 (at (stateAfter P t .residualTotals) i) 262144000000
+  -- where the bound of low comes from; the code's proofs use the bound alone
   pub low-range : InCostRange P (lowAfter P t)
   pub low : Fits64 (lowAfter P t) 327680000000
-  -- the gap: D times the cost of the sums, less t × low
+  -- T5.4, the gap: D·Σ_j c_j·S_j − t·low
   pub sums-cost : CostMagnitudes P (at (stateAfter P t .sums)) 4096000
   pub counted-low : Fits64 (pos t *ℤ lowAfter P t) 1342177280000000
   pub gap : Fits64 (gapOf P t (lowAfter P t) (at (stateAfter P t .sums))) 2684354560000000
@@ -46,34 +50,41 @@ pub record RunMagnitudes (P : Problem) (t : ℕ) : Type 0 where
   pub state : StateMagnitudes P t
   pub step : StepMagnitudes P (entering P t) (amounts P t)
   pub new-sum : (j : ℕ) → j < P .materials → Fits64 (at (stateAfter P t .sums) j +ℤ amounts P t j) 4097000
-  pub new-total : (i : ℕ) → i < P .limits → Fits64 (at (stateAfter P t .residualTotals) i +ℤ residuals P t i) 262208000000
+  pub new-total : (i : ℕ) → i < P .limits
+      → Fits64 (at (stateAfter P t .residualTotals) i +ℤ residuals P t i) 262208000000
 
--- where steps 0 to t are not refused, neither are steps 0 to t−1, and step t meets neither rule 3 nor rule 4
+-- where steps 0 to t are not refused, neither are steps 0 to t−1, and step t meets neither the test of T4.6 nor that of
+-- T4.8
 not-refused : (P : Problem) (t : ℕ) → stepRefusal P (suc t) ≡ none
-    → (stepRefusal P t ≡ none) × T (not (infeasible P (lookAfter P t))) × T (not (diverged P (stateAfter P (suc t) .multipliers)))
+    → (stepRefusal P t ≡ none) × T (not (infeasible P (lookAfter P t)))
+    × T (not (diverged P (stateAfter P (suc t) .multipliers)))
 unfolding stepRefusal refusalAt firstBelow
 not-refused P t h =
     let (before, here) = otherwise-none _ _ h in
     let (nine, ten) = otherwise-none _ _ here in
     (before, refuse-none _ _ _ nine, refuse-none _ _ _ ten)
 
--- a step that does not meet rule 3 keeps low in the range of the costs
+-- a step that does not meet the test of T4.6 keeps low in the range of the costs
 low-next : (P : Problem) (t : ℕ) → InCostRange P (stateAfter P t .lowerBound) → T (not (infeasible P (lookAfter P t)))
     → InCostRange P (stateAfter P (suc t) .lowerBound)
 unfolding stateAfter next infeasible lookAfter
-low-next P t r feasible = record { above = ≤ℤ-trans (r .above) (max-left _ _); below = max-least (r .below) (ltZ-no feasible) }
+low-next P t r feasible = record {
+  above = ≤ℤ-trans (r .above) (max-left _ _);
+  below = max-least (r .below) (ltZ-no feasible);
+}
 
 module _ {P : Problem} {k : ℕ} (a : Accepted P k) where
-  -- ---- rule 4 keeps the multipliers at most 2³⁰
+  -- ---- T4.8 keeps the multipliers at most 2³⁰
   multiplier-top : (t : ℕ) → stepRefusal P t ≡ none → (i : ℕ) → i < P .limits → entering P t i ≤ℤ pos 1073741824
   unfolding stateAfter start diverged
   multiplier-top zero h i l = rw (at-tabulate (P .limits) (startingMultiplier P) i l) (a .start-top i l)
   multiplier-top (suc t) h i l = ltZ-no (any-none (P .limits) _ (not-refused P t h .2) i l)
 
   multiplier-bnd : (t : ℕ) → stepRefusal P t ≡ none → (i : ℕ) → i < P .limits → Bnd (entering P t i) 1073741824
-  multiplier-bnd t h i l = bnd-between (≤ℤ-trans (leZ-yes tt) (entering-sign P (a .start-sign) t i l)) (multiplier-top t h i l)
+  multiplier-bnd t h i l =
+      bnd-between (≤ℤ-trans (leZ-yes tt) (entering-sign P (a .start-sign) t i l)) (multiplier-top t h i l)
 
-  -- ---- low begins at D times the cost of amounts within the bounds, and rule 3 keeps it in the range of the costs
+  -- ---- low begins at D times the cost of amounts within the bounds, and T4.6 keeps it in the range of the costs
   low-range : (t : ℕ) → stepRefusal P t ≡ none → InCostRange P (stateAfter P t .lowerBound)
   unfolding stateAfter start startingMultiplier
   low-range zero h = rw at-zero (cost-in-range P _ (minimal-within (a .ordered) (rule-1 P (startingMultiplier P))))
@@ -92,12 +103,15 @@ module _ {P : Problem} {k : ℕ} (a : Accepted P k) where
   -- ---- the totals of at most k steps
   module _ (t : ℕ) (few : t ≤ k) where
     sums-bnd : (j : ℕ) → j < P .materials → Bnd (at (stateAfter P t .sums) j) 4096000
-    sums-bnd j l = rw (sums-are P t j l) (sumTo-bnd {N = 4096} t _ (le-trans few (a .steps-few)) (λ s _. amounts-bnd a (amounts-minimal P s) j l))
+    sums-bnd j l =
+        rw (sums-are P t j l)
+        (sumTo-bnd {N = 4096} t _ (le-trans few (a .steps-few)) (λ s _. amounts-bnd a (amounts-minimal P s) j l))
 
     totals-bnd : (i : ℕ) → i < P .limits → Bnd (at (stateAfter P t .residualTotals) i) 262144000000
     totals-bnd i l =
         rw (totals-are P t i l)
-        (sumTo-bnd {N = 4096} t _ (le-trans few (a .steps-few)) (λ s _. residual-bnd a (amounts P s) (amounts-bnd a (amounts-minimal P s)) i l))
+        (sumTo-bnd {N = 4096} t _ (le-trans few (a .steps-few)) (λ s _.
+        residual-bnd a (amounts P s) (amounts-bnd a (amounts-minimal P s)) i l))
 
     sums-cost-magnitudes : CostMagnitudes P (at (stateAfter P t .sums)) 4096000
     sums-cost-magnitudes = cost-magnitudes a (at (stateAfter P t .sums)) (lit≤ tt) sums-bnd
@@ -124,7 +138,8 @@ run-magnitudes {P} a t few h = record {
   state = state;
   step = step;
   new-sum = λ j l. fit tt (state .sum j l .magnitude b+ step .amount j l .magnitude);
-  new-total = λ i l. rw (residuals-are P t i l) (fit tt (state .residual-total i l .magnitude b+ step .one-residual i l .magnitude));
+  new-total = λ i l.
+      rw (residuals-are P t i l) (fit tt (state .residual-total i l .magnitude b+ step .one-residual i l .magnitude));
 }
   where
     state : StateMagnitudes P t

@@ -1,4 +1,5 @@
--- The run of `rules` by its formulas: what the look at the multipliers after t steps gives, where they go, and what the totals add up.
+-- The run of `rules` by its formulas: what the look at the multipliers after t steps gives, where they go, and what the
+-- totals add up.
 use mathlib.Core.Path.{_≡_, _∙_}
 use Prim.Native.Nat.{ℕ, zero, suc, _<_}
 use lib.IntN.{ℤ, pos, _+ℤ_}
@@ -35,7 +36,7 @@ module _ (P : Problem) where
   unfolding stateAfter next lookAfter
   leaving t i l = at-tabulate (P .limits) (moved P (entering t) (residuals t)) i l
 
-  -- ---- its amounts are minimal, by rule 1
+  -- ---- its amounts are minimal, by T4.3
   pub rule-1 : (M : ℕ → ℤ) → AllMinimal P (reducedCost P M) (amount P M)
   unfolding amount
   rule-1 M j _ = rule-minimal (reducedCost P M j) (P .least j) (P .most j)
@@ -47,13 +48,16 @@ module _ (P : Problem) where
   pub sums-are : (k j : ℕ) → j < P .materials → at (stateAfter P k .sums) j ≡ sumTo k (λ t. amounts t j)
   unfolding stateAfter start next sumTo lookAfter
   sums-are zero j l = at-tabulate (P .materials) (λ _. pos 0) j l
-  sums-are (suc k) j l = at-tabulate (P .materials) (λ j. at (stateAfter P k .sums) j +ℤ amounts k j) j l ∙ rw (sums-are k j l)
+  sums-are (suc k) j l =
+      at-tabulate (P .materials) (λ j. at (stateAfter P k .sums) j +ℤ amounts k j) j l ∙ rw (sums-are k j l)
 
-  pub totals-are : (k i : ℕ) → i < P .limits → at (stateAfter P k .residualTotals) i ≡ sumTo k (λ t. residual P (amounts t) i)
+  pub totals-are : (k i : ℕ) → i < P .limits
+      → at (stateAfter P k .residualTotals) i ≡ sumTo k (λ t. residual P (amounts t) i)
   unfolding stateAfter start next sumTo lookAfter
   totals-are zero i l = at-tabulate (P .limits) (λ _. pos 0) i l
   totals-are (suc k) i l =
-      at-tabulate (P .limits) (λ i. at (stateAfter P k .residualTotals) i +ℤ residuals k i) i l ∙ rw (totals-are k i l, residuals-are k i l)
+      at-tabulate (P .limits) (λ i. at (stateAfter P k .residualTotals) i +ℤ residuals k i) i l
+      ∙ rw (totals-are k i l, residuals-are k i l)
 
 -- no starting multiplier is negative
 abbrev pub StartSign : Problem → Type 0

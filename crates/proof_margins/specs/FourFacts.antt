@@ -1,6 +1,7 @@
--- What the proofs use of a step: four facts about the multipliers M that enter it, its amounts x, and the multipliers M′ that leave it.
--- A step of source document 004, equations (7) and (8), has them, whichever end it takes at a reduced cost of 0, and whatever multipliers, none of
--- them negative, it enters with.
+-- What the proofs use of a step: four facts about the multipliers M that enter it, its amounts x, and the multipliers
+-- M′ that leave it.
+-- A step by (7) and (8) of source document 004 has them, whichever end it takes at a reduced cost of 0, and whatever
+-- multipliers, none of them negative, it enters with.
 use mathlib.Core.Path.{_≡_}
 use Prim.Native.Nat.{ℕ, suc, _<_}
 use lib.IntN.{ℤ, pos, _+ℤ_, _*ℤ_}

@@ -1,4 +1,5 @@
--- Source document 004, Lemma 2(a), the basic iterate relation: how far from any ν ≥ 0 the multipliers can be after a step.
+-- Source document 004, Lemma 2(a), the basic iterate relation: how far from any ν ≥ 0 the multipliers can be after a
+-- step.
 use mathlib.Core.Path.{_≡_}
 use mathlib.Core.List.{[], _∷_}
 use Prim.Native.Nat.{ℕ, _*_, _<_}
@@ -24,7 +25,8 @@ norm² P v = sumTo (P .limits) (λ i. square (v i))
 
 -- what ‖M − ν‖² grows by in a step, at most: 2·p·(V − L) + p²·‖residuals‖²
 abbrev pub growth : (P : Problem) (x : ℕ → ℤ) (value L : ℤ) → ℤ
-growth P x value L = pos 2 *ℤ pos (P .numerator) *ℤ (value -ℤ L) +ℤ square (pos (P .numerator)) *ℤ norm² P (residual P x)
+growth P x value L =
+    pos 2 *ℤ pos (P .numerator) *ℤ (value -ℤ L) +ℤ square (pos (P .numerator)) *ℤ norm² P (residual P x)
 
 -- it rises with V, and falls with L
 pub growth-mono : (P : Problem) (x : ℕ → ℤ) {v v′ L L′ : ℤ} → v ≤ℤ v′ → L′ ≤ℤ L → growth P x v L ≤ℤ growth P x v′ L′
@@ -56,11 +58,13 @@ module _ {P : Problem} {M x M′ : ℕ → ℤ} (facts : FourFacts P M x M′) w
   pub from-zero : (norm² P M′ -ℤ norm² P M) ≤ℤ growth P x (dualValue P M x) (pos (P .scale) *ℤ costOf P x)
   from-zero = simp (at-zero, +ℤ-idr) at (iterate-relation (λ _. pos 0) (λ _ _. ≤ℤ-refl (pos 0)))
 
-  -- Lemma 2(a) with q(ν), the dual value of a step that enters with ν, for amounts within the bounds. The source has ‖M − ν‖² on the other side:
+  -- Lemma 2(a) as the source has it, though with ‖M − ν‖² on this side: with q(ν), the dual value of a step that enters
+  -- with ν, for amounts within the bounds. The theorem goes by `from-zero`, and not by this.
   -- ‖M′ − ν‖² − ‖M − ν‖² ≤ 2·p·(q(M) − q(ν)) + p²·‖residuals‖²
   pub lemma-2a : {ν xν ν′ : ℕ → ℤ} → FourFacts P ν xν ν′ → WithinBounds P (pos 1) x
       → (norm² P (λ i. M′ i -ℤ ν i) -ℤ norm² P (λ i. M i -ℤ ν i)) ≤ℤ growth P x (dualValue P M x) (dualValue P ν xν)
-  lemma-2a {ν} {xν} factsν within = ≤ℤ-trans (iterate-relation ν (factsν .sign)) (growth-mono P x (≤ℤ-refl (dualValue P M x)) smaller)
+  lemma-2a {ν} {xν} factsν within =
+      ≤ℤ-trans (iterate-relation ν (factsν .sign)) (growth-mono P x (≤ℤ-refl (dualValue P M x)) smaller)
     where
       smaller : dualValue P ν xν ≤ℤ dualValue P ν x
       smaller = simp (at-whole, one-*ℤ) at (factsν .minimum (pos 1) x within)

@@ -26,14 +26,17 @@ module _ (P : Problem) where
 
   -- two sums in the other order: Σ_i M_i·(a_i·y) = Σ_j (Σ_i M_i·a_ij)·y_j
   loads-by-materials : (M y : ℕ → ℤ)
-      → sumTo (P .limits) (λ i. M i *ℤ loadOf P y i) ≡ sumTo (P .materials) (λ j. sumTo (P .limits) (λ i. M i *ℤ P .coefficient i j) *ℤ y j)
+      → sumTo (P .limits) (λ i. M i *ℤ loadOf P y i)
+      ≡ sumTo (P .materials) (λ j. sumTo (P .limits) (λ i. M i *ℤ P .coefficient i j) *ℤ y j)
   unfolding loadOf
   loads-by-materials M y =
-      simp (← sumTo-scale, ← sumTo-scale-r, *ℤ-assoc) (sumTo-swap (P .limits) (P .materials) (λ i j. M i *ℤ (P .coefficient i j *ℤ y j)))
+      simp (← sumTo-scale, ← sumTo-scale-r, *ℤ-assoc)
+      (sumTo-swap (P .limits) (P .materials) (λ i j. M i *ℤ (P .coefficient i j *ℤ y j)))
 
   -- by materials the Lagrangian is Σ_j w_j·y_j − d·Σ_i M_i·b_i, with the reduced costs w_j
   by-materials : (M : ℕ → ℤ) (d : ℤ) (y : ℕ → ℤ)
-      → lagrangian M d y ≡ sumTo (P .materials) (λ j. reducedCost P M j *ℤ y j) -ℤ d *ℤ sumTo (P .limits) (λ i. M i *ℤ P .rhs i)
+      → lagrangian M d y
+      ≡ sumTo (P .materials) (λ j. reducedCost P M j *ℤ y j) -ℤ d *ℤ sumTo (P .limits) (λ i. M i *ℤ P .rhs i)
   unfolding lagrangian reducedCost costOf
   by-materials M d y =
       simp (*ℤ--ℤ, sumTo-sub, loads-by-materials, +ℤ-*ℤ, sumTo-add, ← sumTo-scale, *ℤ-assoc, *ℤ-left-comm, +ℤ-assoc)
@@ -42,7 +45,8 @@ module _ (P : Problem) where
   pub minimum : (M x : ℕ → ℤ) → AllMinimal P (reducedCost P M) x
       → (d : ℤ) (y : ℕ → ℤ) → WithinBounds P d y → (d *ℤ dualValue P M x) ≤ℤ lagrangian M d y
   minimum M x minimal d y within =
-      rw (← at-whole M x, by-materials M (pos 1) x, by-materials M d y) (shift d _ _ _ (sum-least P (reducedCost P M) x minimal d y within))
+      rw (← at-whole M x, by-materials M (pos 1) x, by-materials M d y)
+      (shift d _ _ _ (sum-least P (reducedCost P M) x minimal d y within))
     where
       shift : (d X Y B : ℤ) → (d *ℤ X) ≤ℤ Y → (d *ℤ (X -ℤ pos 1 *ℤ B)) ≤ℤ (Y -ℤ d *ℤ B)
       shift = omegaℤ 4 (λ d X Y B. (d ⊗ X ≼ Y) ∷ [] ⊢ d ⊗ (X ⊖ lit 1 ⊗ B) ≼ Y ⊖ d ⊗ B) (omega arith)

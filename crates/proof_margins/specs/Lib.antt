@@ -1,4 +1,4 @@
--- Demand 3, proved of the definitions of `rules`: every answer has its margins.
+-- T9.3 to T9.7, proved of the definitions of `rules`: every answer has its margins.
 -- The theorem is `margins` of Theorem. Its proof follows source document 004, and is read in this order:
 --   Lagrangian       the Lagrangian, equation (4), and F1: a step's dual value is its minimum over the bounds
 --   FourFacts        F1 to F4, all that the proofs use of a step
@@ -9,12 +9,12 @@
 -- From here on it speaks of the definitions:
 --   RunSteps         each step of the run has the four facts
 --   Plans            every plan has its margins
---   Infeasible       refusal 9 is given only where there is no feasible point
---   Theorem          demand 3
+--   Infeasible       T9.7: refusal 9 is given only where there is no feasible point
+--   Theorem          the theorem
 --   Sharp            the claims are not empty: worked sheets where they are equations, and near claims refuted
 -- Minimal of `proof_magnitudes`, equation (8), comes before these.
--- Of a step, M are the multipliers that enter it (times D), M′ those that leave it, x its amounts, and V its dual value. A point y/d has the whole
--- amounts y over the divisor d.
+-- Of a step, M are the multipliers that enter it (times D), M′ those that leave it, x its amounts, and V its dual
+-- value. A point y/d has the whole amounts y over the divisor d.
 pub mod Lagrangian
 pub mod FourFacts
 pub mod WeakDuality

@@ -1,4 +1,5 @@
--- Every plan has its margins: weak duality gives low and the excess, Proposition 1(a) the residual totals, and Proposition 1(b) the squares.
+-- Every plan has its margins: weak duality gives low (T9.3) and the excess (T9.4), Proposition 1(a) the residual totals
+-- (T9.5), and Proposition 1(b) the squares (T9.6).
 use mathlib.Core.Path.{_≡_, ap, _∙_}
 use Prim.Native.Nat.{ℕ, _<_}
 use lib.IntN.{pos, _*ℤ_, +ℤ-idl, +ℤ-idr}
@@ -23,23 +24,29 @@ module _ (P : Problem) where
   starts-at-zero i l = at-tabulate (P .limits) (startingMultiplier P) i l
 
   no-starting-squares : norm² P (entering P 0) ≡ pos 0
-  no-starting-squares = sumTo-cong (P .limits) _ (λ _. pos 0) (λ i l. ap square (starts-at-zero i l)) ∙ sumTo-none (P .limits)
+  no-starting-squares =
+      sumTo-cong (P .limits) _ (λ _. pos 0) (λ i l. ap square (starts-at-zero i l)) ∙ sumTo-none (P .limits)
 
   -- ---- the figures of a plan are those of its steps
   cost-of-sums : (k : ℕ) → costOf P (at (stateAfter P k .sums)) ≡ costOf P (λ j. sumTo k (λ t. amounts P t j))
   unfolding costOf
   cost-of-sums k = sumTo-cong (P .materials) _ _ (λ j l. ap (λ a. P .cost j *ℤ a) (sums-are P k j l))
 
-  squared-residuals : (k : ℕ) → sumTo k (λ t. norm² P (residuals P t)) ≡ sumTo k (λ t. norm² P (residual P (amounts P t)))
+  squared-residuals : (k : ℕ)
+      → sumTo k (λ t. norm² P (residuals P t)) ≡ sumTo k (λ t. norm² P (residual P (amounts P t)))
   squared-residuals k = sumTo-cong k _ _ (λ t _. sumTo-cong (P .limits) _ _ (λ i l. ap square (residuals-are P t i l)))
 
-  pub plan-margins : StartSign P → (k : ℕ) → PlanMargins P k (lowAfter P k) (gapOf P k (lowAfter P k) (at (stateAfter P k .sums)))
+  pub plan-margins : StartSign P → (k : ℕ)
+      → PlanMargins P k (lowAfter P k) (gapOf P k (lowAfter P k) (at (stateAfter P k .sums)))
   unfolding gapOf planAfter
   plan-margins start-sign k = record {
     lower = low-below-costs P start-sign k;
     excess = λ d y f. excess k d _ _ _ (low-below-costs P start-sign k d y f);
-    residualTotals = λ i l. rw (totals-are P k i l) (simp (starts-at-zero i l, +ℤ-idr) at (proposition-1a (steps P start-sign k) i l));
+    residualTotals = λ i l.
+        rw (totals-are P k i l)
+        (simp (starts-at-zero i l, +ℤ-idr) at (proposition-1a (steps P start-sign k) i l));
     squares =
         rw (cost-of-sums k, squared-residuals k)
-        (simp (no-starting-squares, +ℤ-idl) at (proposition-1b (steps P start-sign k) (lowAfter P k) (low-above-values P k)));
+        (simp (no-starting-squares, +ℤ-idl) at
+        (proposition-1b (steps P start-sign k) (lowAfter P k) (low-above-values P k)));
   }

@@ -1,4 +1,5 @@
--- The run of `rules`: each of its steps has the four facts, and low lies between the dual values and the costs of feasible points.
+-- The run of `rules`: each of its steps has the four facts, and low lies between the dual values and the costs of
+-- feasible points.
 use mathlib.Core.Path.{_≡_, refl, ap, _∙_}
 use Prim.Native.Nat.{ℕ, zero, suc, _<_}
 use lib.IntN.{ℤ, pos, _+ℤ_, _*ℤ_}
@@ -9,22 +10,27 @@ use Rattle.rules.specs.Problem.{Problem, Feasible, costOf}
 use Rattle.rules.specs.Step.{amount, residual, dualValue, lookAt, moved, next}
 use Rattle.rules.specs.Run.{startingMultiplier, start, stateAfter, lookAfter, lowAfter}
 use Rattle.proof_laws.specs.Below.{below-zero, below-suc}
-use Rattle.proof_magnitudes.specs.Steps.{entering, amounts, residuals-are, leaving, rule-1, amounts-minimal, StartSign, entering-sign}
+use Rattle.proof_magnitudes.specs.Steps.{entering, amounts, residuals-are, leaving, rule-1, amounts-minimal}
+use Rattle.proof_magnitudes.specs.Steps.{StartSign, entering-sign}
 use Rattle.proof_margins.specs.FourFacts.{FourFacts, Steps, four-facts}
 use Rattle.proof_margins.specs.WeakDuality.{weak-duality}
 
 module _ (P : Problem) where
   -- the multipliers that leave step t, by the residuals of its amounts
-  moved-by-residuals : (t i : ℕ) → i < P .limits → entering P (suc t) i ≡ moved P (entering P t) (residual P (amounts P t)) i
+  moved-by-residuals : (t i : ℕ) → i < P .limits
+      → entering P (suc t) i ≡ moved P (entering P t) (residual P (amounts P t)) i
   unfolding moved
-  moved-by-residuals t i l = leaving P t i l ∙ ap (λ g. maxℤ (pos 0) (entering P t i +ℤ pos (P .numerator) *ℤ g)) (residuals-are P t i l)
+  moved-by-residuals t i l =
+      leaving P t i l
+      ∙ ap (λ g. maxℤ (pos 0) (entering P t i +ℤ pos (P .numerator) *ℤ g)) (residuals-are P t i l)
 
   -- ---- no dual value of the steps is above low
   pub low-above-values : (k t : ℕ) → t < k → dualValue P (entering P t) (amounts P t) ≤ℤ lowAfter P k
   unfolding lowAfter stateAfter next lookAfter lookAt
   low-above-values zero = below-zero (λ t. dualValue P (entering P t) (amounts P t) ≤ℤ stateAfter P 0 .lowerBound)
   low-above-values (suc k) =
-      below-suc k (λ t. dualValue P (entering P t) (amounts P t) ≤ℤ maxℤ (stateAfter P k .lowerBound) (lookAfter P k .dualValue))
+      below-suc k
+      (λ t. dualValue P (entering P t) (amounts P t) ≤ℤ maxℤ (stateAfter P k .lowerBound) (lookAfter P k .dualValue))
       (λ t l. ≤ℤ-trans (low-above-values k t l) (max-left (stateAfter P k .lowerBound) _))
       (max-right (stateAfter P k .lowerBound) _)
 
@@ -33,16 +39,20 @@ module _ (P : Problem) (start-sign : StartSign P) where
   -- the four facts of every step
   pub facts : (t : ℕ) → FourFacts P (entering P t) (amounts P t) (entering P (suc t))
   facts t =
-      four-facts P (entering P t) (amounts P t) (entering P (suc t)) (amounts-minimal P t) (entering-sign P start-sign t) (moved-by-residuals P t)
+      four-facts P (entering P t) (amounts P t) (entering P (suc t))
+      (amounts-minimal P t) (entering-sign P start-sign t) (moved-by-residuals P t)
 
   pub steps : (k : ℕ) → Steps P k (entering P) (amounts P)
   steps k t _ = facts t
 
-  -- low is above the cost of no feasible point
-  pub low-below-costs : (k : ℕ) (d : ℤ) (y : ℕ → ℤ) → Feasible P d y → (d *ℤ lowAfter P k) ≤ℤ (pos (P .scale) *ℤ costOf P y)
+  -- T9.3: low is above the cost of no feasible point
+  pub low-below-costs : (k : ℕ) (d : ℤ) (y : ℕ → ℤ) → Feasible P d y
+      → (d *ℤ lowAfter P k) ≤ℤ (pos (P .scale) *ℤ costOf P y)
   unfolding lowAfter stateAfter start next lookAfter lookAt
   low-below-costs zero =
       let M = startingMultiplier P in
-      weak-duality (four-facts P M (amount P M) (moved P M (residual P (amount P M))) (rule-1 P M) start-sign (λ _ _. refl))
+      weak-duality
+      (four-facts P M (amount P M) (moved P M (residual P (amount P M))) (rule-1 P M) start-sign (λ _ _. refl))
   low-below-costs (suc k) = λ d y f.
-      max-cases _ _ (λ low. (d *ℤ low) ≤ℤ (pos (P .scale) *ℤ costOf P y)) (λ _. weak-duality (facts k) d y f) (λ _. low-below-costs k d y f)
+      max-cases _ _ (λ low. (d *ℤ low) ≤ℤ (pos (P .scale) *ℤ costOf P y))
+      (λ _. weak-duality (facts k) d y f) (λ _. low-below-costs k d y f)

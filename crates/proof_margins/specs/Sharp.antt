@@ -1,4 +1,4 @@
--- The claims of demand 3, by the theorem, at the sheets of Points of `rules`, which has their two sides in numbers and
+-- The claims of T9.3 to T9.7, by the theorem, at the sheets of Points of `rules`, which has their sides in numbers and
 -- refutes each with one less on the larger side. And near claims that are false, each made by a must-fail edit.
 use mathlib.Core.Path.{refl}
 use Prim.Native.Nat.{ℕ}
@@ -21,7 +21,7 @@ use Rattle.proof_margins.specs.IterateRelation.{norm²}
 use Rattle.proof_margins.specs.Theorem.{margins}
 
 -- ---- C1, with low 104 and gap −16
-pub margins-C1 : PlanMargins P₁ 4 (pos 104) (neg 16)
+margins-C1 : PlanMargins P₁ 4 (pos 104) (neg 16)
 unfolding Holds Margins
 margins-C1 = margins (C1 .sheet) (C1 .room)
 

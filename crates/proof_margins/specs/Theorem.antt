@@ -30,7 +30,7 @@ module _ (sheet : List ℕ) (room : ℕ) where
   by-refusal none e _ =
       plan-margins (problem (sheetOf sheet)) (accepted sheet (read e) .start-sign) (sheetOf sheet .sizes .steps)
 
--- Demand 3.
+-- T9.3 to T9.7, of every answer.
 pub margins : (sheet : List ℕ) (room : ℕ) → Margins sheet (answer sheet room)
 unfolding answer answerTo
 margins sheet room = by-refusal sheet room (met sheet room) refl (refusal-margins sheet room)

@@ -1,4 +1,4 @@
--- A sheet that is turned back is refused as the table says; the figures of any other give the sheet's own plan.
+-- A sheet that is not read (T7.5) is refused as T7.4 says; the figures of any other give the sheet's own plan.
 use mathlib.Core.Path.{_≡_, sym, ap, _∙_}
 use mathlib.Core.List.{List}
 use mathlib.Core.Option.{none}
@@ -7,12 +7,11 @@ use lib.IntN.{ℤ, pos}
 use lib.ListN.{length, replicate, length-replicate}
 use borrow.Author.Needs.{needs}
 use Rattle.rules.specs.Sheet.{sheetOf, problem}
-use Rattle.rules.specs.Refusals.{layoutRefusal}
+use Rattle.rules.specs.Refusals.{refusalOf, layoutRefusal}
 use Rattle.sheet_figures.specs.Figures.{figuresOf, coefficientsOver}
-use Rattle.rules.specs.Refusals.{refusalOf}
 use Rattle.sheet_read.specs.Reading.{figuresUnless, coefficientsUnless}
 use Rattle.planner.proofs.Ending.{ends-refused, ends-same, promised}
-use Rattle.planner.proofs.Sheets.{figures-accepted, plan-is, refusal-is, turned-back}
+use Rattle.planner.proofs.Sheets.{figures-accepted, plan-is, refusal-is, layout-refused}
 use Rattle.planner.proofs.plan.Statement.{statement}
 use Rattle.planner.proofs.plan.Tie as tie
 
@@ -20,24 +19,32 @@ use Rattle.planner.proofs.plan.Tie as tie
 abbrev zeros : List ℤ
 zeros = replicate 512 (pos 0)
 
+-- ---- the stages: the array, and the start
+abbrev at-a : tie.After-read-sheet → tie.After-a
+at-a c = c .before
+
+abbrev at-start : tie.After-read-sheet → tie.Start
+at-start c = at-a c .before .before .before
+
+-- ---- the sheet is refused
 returns : tie.Need-returns
 unfolding refusalOf
 returns c =
     let told = c .before in
     let read = told .before .before in
-    let s = read .before .before .before .before in
+    let s = at-start read in
     promised
     (ends-refused _
-    (turned-back (s .args .sheet .now) (length (s .args .«record» .now))
+    (layout-refused (s .args .sheet .now) (length (s .args .«record» .now))
     (sym (read .read-sheet .ensures .verdict) ∙ ap refusalOf (told .verdict .given .1))))
 
--- the sheet is read
+-- ---- the sheet is read
 module _ (c : tie.After-enum-told) where
   abbrev read : tie.After-read-sheet
   read = c .before .before
 
   abbrev sheet : List ℕ
-  sheet = read .before .before .before .before .args .sheet .now
+  sheet = at-start read .args .sheet .now
 
   accepted : layoutRefusal sheet ≡ none
   unfolding refusalOf
@@ -71,4 +78,5 @@ returns-2 c =
 pub plan-spec : {M : Type 1} → statement M
 plan-spec =
     tie.close
-    (tie.spec (λ c κs. search needs) (search needs) (search needs) plan-figures-requires returns (search needs) returns-2)
+    (tie.spec (λ c κs. search needs) (search needs) (search needs)
+    plan-figures-requires returns (search needs) returns-2)

@@ -18,7 +18,8 @@ returns c =
     let s = c .before .before .before in
     let wanted = c .before .record-length .ensures in
     ends-refused _ (given _ (
-    ap (λ (n : ℕ). refuse 8 n (ltb (length (s .args .«record» .now)) n)) (sym wanted) ∙ refuse-yes 8 _ (lt-ltb _ _ (c .if1 .taken))))
+    ap (λ (n : ℕ). refuse 8 n (ltb (length (s .args .«record» .now)) n)) (sym wanted)
+    ∙ refuse-yes 8 _ (lt-ltb _ _ (c .if1 .taken))))
 
 plan-run-requires : tie.Need-plan-run-requires
 plan-run-requires c κs =

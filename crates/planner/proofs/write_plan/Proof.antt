@@ -27,18 +27,22 @@ module _ (s : tie.Start) where
   w = s .args .state
 
 -- ---- the gap
-abbrev at-gap : tie.After-sums2 → tie.Start
-at-gap c = c .before .before .before .before .before .before
+-- the stages before it: the sums, and the start
+abbrev at-sums : tie.After-sums2 → tie.After-sums
+at-sums c = c .before .before .before
+
+abbrev at-start : tie.After-sums2 → tie.Start
+at-start c = at-sums c .before .before .before
 
 gap-requires : tie.Need-gap-requires
 gap-requires c κs =
-    let s = at-gap c in
+    let s = at-start c in
     let fits : SFits w64 (w s .low) = search needs in
     rw (toZ-ofZ fits) (s .pre .gap)
 
 module _ (c : tie.After-gap) where
   abbrev start : tie.Start
-  start = at-gap (c .before)
+  start = at-start (c .before)
 
   low-is : toZ w64 (ofZ w64 (w start .low)) ≡ w start .low
   low-is = let fits : SFits w64 (w start .low) = search needs in toZ-ofZ fits
@@ -52,11 +56,21 @@ module _ (c : tie.After-gap) where
       toZ-ofZ fits ∙ c .gap .ensures ∙ (λ k. gapOf costs (given .steps) (low-is k) (at (w start .sums)))
 
 -- ---- the record
+-- the stages before it: the sums are lent, the totals, and the gap
+abbrev at-sums-lent : tie.After-write-record → tie.After-sums3
+at-sums-lent c = c .before .before .before
+
+abbrev at-totals : tie.After-write-record → tie.After-totals
+at-totals c = at-sums-lent c .before .before
+
+abbrev at-gap : tie.After-write-record → tie.After-gap
+at-gap c = at-totals c .before .before
+
 returns : tie.Need-returns
 unfolding planWith planIn
 returns c =
     let written = c .before .before in
-    let g = written .before .before .before .before .before .before .before in
+    let g = at-gap written in
     let s = start g in
     ends-planned (low-is g) (gap-is g)
     (written .write-record .ensures
