@@ -16,7 +16,7 @@ use Rattle.bytes_write.specs.Number.{length-signed}
 
 -- ---- at the start of some bytes
 -- an unsigned number of w bytes
-unsigned-back : (w v : ℕ) (rest : List ℕ) → v < 256 ^ w → unsignedAt w (unsignedBytes w v ++ rest) 0 ≡ v
+pub unsigned-back : (w v : ℕ) (rest : List ℕ) → v < 256 ^ w → unsignedAt w (unsignedBytes w v ++ rest) 0 ≡ v
 unfolding unsignedAt unsignedBytes
 unsigned-back zero v rest h = omega arith
 unsigned-back (suc w) v rest h =
@@ -26,7 +26,7 @@ unsigned-back (suc w) v rest h =
     (omega arith)
 
 -- a signed number of w bytes; `mag z` is n for n and for −(n + 1)
-signed-back : (w : ℕ) (z : ℤ) (rest : List ℕ) → mag z < 256 ^ w / 2 → signedAt w (signedBytes w z ++ rest) 0 ≡ z
+pub signed-back : (w : ℕ) (z : ℤ) (rest : List ℕ) → mag z < 256 ^ w / 2 → signedAt w (signedBytes w z ++ rest) 0 ≡ z
 unfolding signedAt signedBytes
 signed-back w (pos v) rest h = rw (unsigned-back w v rest (omega arith)) (signed-lower w v h)
 signed-back w (negsuc v) rest h =

@@ -37,12 +37,12 @@ module _ (P : Problem) where
   leaving t i l = at-tabulate (P .limits) (moved P (entering t) (residuals t)) i l
 
   -- ---- its amounts are minimal, by T4.3
-  pub rule-1 : (M : ℕ → ℤ) → AllMinimal P (reducedCost P M) (amount P M)
+  pub chosen-minimal : (M : ℕ → ℤ) → AllMinimal P (reducedCost P M) (amount P M)
   unfolding amount
-  rule-1 M j _ = rule-minimal (reducedCost P M j) (P .least j) (P .most j)
+  chosen-minimal M j _ = rule-minimal (reducedCost P M j) (P .least j) (P .most j)
 
   pub amounts-minimal : (t : ℕ) → AllMinimal P (reducedCost P (entering t)) (amounts t)
-  amounts-minimal t j l = rw (amounts-are t j l) (rule-1 (entering t) j l)
+  amounts-minimal t j l = rw (amounts-are t j l) (chosen-minimal (entering t) j l)
 
   -- ---- the totals
   pub sums-are : (k j : ℕ) → j < P .materials → at (stateAfter P k .sums) j ≡ sumTo k (λ t. amounts t j)

@@ -10,7 +10,7 @@ use Rattle.rules.specs.Problem.{Problem, Feasible, costOf}
 use Rattle.rules.specs.Step.{amount, residual, dualValue, lookAt, moved, next}
 use Rattle.rules.specs.Run.{startingMultiplier, start, stateAfter, lookAfter, lowAfter}
 use Rattle.proof_laws.specs.Below.{below-zero, below-suc}
-use Rattle.proof_magnitudes.specs.Steps.{entering, amounts, residuals-are, leaving, rule-1, amounts-minimal}
+use Rattle.proof_magnitudes.specs.Steps.{entering, amounts, residuals-are, leaving, chosen-minimal, amounts-minimal}
 use Rattle.proof_magnitudes.specs.Steps.{StartSign, entering-sign}
 use Rattle.proof_margins.specs.FourFacts.{FourFacts, Steps, four-facts}
 use Rattle.proof_margins.specs.WeakDuality.{weak-duality}
@@ -52,7 +52,7 @@ module _ (P : Problem) (start-sign : StartSign P) where
   low-below-costs zero =
       let M = startingMultiplier P in
       weak-duality
-      (four-facts P M (amount P M) (moved P M (residual P (amount P M))) (rule-1 P M) start-sign (λ _ _. refl))
+      (four-facts P M (amount P M) (moved P M (residual P (amount P M))) (chosen-minimal P M) start-sign (λ _ _. refl))
   low-below-costs (suc k) = λ d y f.
       max-cases _ _ (λ low. (d *ℤ low) ≤ℤ (pos (P .scale) *ℤ costOf P y))
       (λ _. weak-duality (facts k) d y f) (λ _. low-below-costs k d y f)
