@@ -26,7 +26,8 @@ use Rattle.proof_magnitudes.specs.CostRange.{cheapestEnd, greatestEnd, c
 use Rattle.proof_magnitudes.specs.CostRange.{InCostRange, cost-in-range}
 use Rattle.proof_laws.specs.Below.{any-none}
 use Rattle.proof_laws.specs.NotRefused.{otherwise-none, refuse-none}
-use Rattle.proof_magnitudes.specs.Steps.{entering, amounts, residuals, residuals-are, chosen-minimal, amounts-minimal}
+use Rattle.proof_magnitudes.specs.Steps.{entering, amounts, residuals, residuals-are, chosen-minimal}
+use Rattle.proof_magnitudes.specs.Steps.{amounts-minimal}
 use Rattle.proof_magnitudes.specs.Steps.{entering-sign, sums-are, totals-are}
 use Rattle.proof_magnitudes.specs.Accepted.{Accepted, accepted}
 use Rattle.proof_magnitudes.specs.Magnitudes.{Fits64, fit, CostMagnitudes, StepMagnitudes}
@@ -87,7 +88,8 @@ module _ {P : Problem} {k : ℕ} (a : Accepted P k) where
   -- ---- low begins at D times the cost of amounts within the bounds, and T4.6 keeps it in the range of the costs
   low-range : (t : ℕ) → stepRefusal P t ≡ none → InCostRange P (stateAfter P t .lowerBound)
   unfolding stateAfter start startingMultiplier
-  low-range zero h = rw at-zero (cost-in-range P _ (minimal-within (a .ordered) (chosen-minimal P (startingMultiplier P))))
+  low-range zero h =
+      rw at-zero (cost-in-range P _ (minimal-within (a .ordered) (chosen-minimal P (startingMultiplier P))))
   low-range (suc t) h = let (before, feasible, _) = not-refused P t h in low-next P t (low-range t before) feasible
 
   low-bnd : (t : ℕ) → stepRefusal P t ≡ none → Bnd (stateAfter P t .lowerBound) 327680000000
