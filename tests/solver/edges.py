@@ -1,8 +1,9 @@
-"""Fixed sheets at the edges of document 01's rules, with names, and most with an answer by hand."""
+"""Fixed sheets at the edges of the rules (docs/TASK.md), with names, and most with an answer by hand."""
 import struct
 
-from draws import Draws, large_sheet
+from generator import Generator
 from programs import ROOT
+from random_sheets import large_sheet
 from sheets import LISTINGS, MARKED, Case, bytes_of, damaged_sheets, ends_of_figures, full, lines_of, text_of
 
 # The fixed sheets: a name, the answer by hand or its beginning, and the sheet.
@@ -45,24 +46,26 @@ b -2147483648                       | refused 6 0       | n=1 m=1 3.1:-214748364
 cost 65537                          | refused 6 0       | n=1 0.0:65537
 a -65535                            | refused 6 0       | n=1 m=1 3.0:-65535
 
-# A weight of 0 takes the least amount: by costs of 0; at multiplier 2, in step 2; and at one material, then at two.
+# A reduced cost of 0 takes the least amount: by costs of 0; at multiplier 2, in step 2; and at one material, then at
+# two.
 ties in every step                  | plan 0 0 2 0 6    | n=3 k=2 1.0:1 1.2:3 2.0:4 2.1:5 2.2:3
 tie in step 2                       | plan 2 -2 3 1 1   | n=1 m=1 k=4 0.0:2 2.0:3 3.0:-1 3.1:-1
-ties at several materials           | plan 1 2 5 0 0 0 -2 | n=3 m=1 k=3 0.0:1 0.1:2 2.0:5 2.1:5 2.2:5 3.0:-1 3.1:-1 3.3:-1
+ties at several materials           | plan 1 2 5 0 0 0 -2 \
+    | n=3 m=1 k=3 0.0:1 0.1:2 2.0:5 2.1:5 2.2:5 3.0:-1 3.1:-1 3.3:-1
 
 # No limits; a low below 0; a gap below 0, as C1 has it too.
 no limits                           | plan -5 0 6 2 2   | n=3 D=5 k=2 0.0:-1 0.1:2 1.0:1 1.1:1 1.2:1 2.0:3 2.1:3 2.2:3
 no limits, 4,096 steps              | plan -21 0 28672 4096 | n=2 D=3 k=4096 0.0:-1 1.0:7 1.1:1 2.0:7 2.1:9
 negative low and gap                | plan -3 -9 8 3 3  | n=1 m=1 k=5 0.0:-3 1.0:1 2.0:2 3.0:1 3.1:1
 
-# No lawful recipe: step t has the value 4 t, over a dearest cost of 100.
-no blend at step 26                 | refused 9 26      | n=1 m=1 k=4096 0.0:100 2.0:1 3.0:-1 3.1:-2
-as long as a step value is equal    | plan 100 -2600 0 52 52 | n=1 m=1 k=26 0.0:100 2.0:1 3.0:-1 3.1:-2
-no blend, with a dearest cost of 0  | refused 9 1       | n=1 m=1 k=2 3.1:-1
+# No feasible recipe: step t has the dual value 4 t, over a greatest cost of 100.
+no recipe at step 26                | refused 9 26      | n=1 m=1 k=4096 0.0:100 2.0:1 3.0:-1 3.1:-2
+as long as a dual value is equal    | plan 100 -2600 0 52 52 | n=1 m=1 k=26 0.0:100 2.0:1 3.0:-1 3.1:-2
+no recipe, a greatest cost of 0     | refused 9 1       | n=1 m=1 k=2 3.1:-1
 9 and 10 in one step                | refused 9 1       | n=1 m=1 p=1024 k=2 3.1:-1000000
 10 in step 0, 9 would be in step 1  | refused 10 0      | C5 k=2
 9 in step 1, after the greatest M   | refused 9 1       | C6 k=2
-run away at the last limit alone    | refused 10 0      | n=1 m=16 p=1024 18.1:-1048577
+divergence at the last limit alone  | refused 10 0      | n=1 m=16 p=1024 18.1:-1048577
 
 # Many steps: the multipliers of C1 go 0, 12, 14 and again.
 C1 with 4,096 steps                 | plan 104 120016 13650 27300 12 -5448 | C1 k=4096
@@ -99,17 +102,21 @@ def ends_of_keys():
 
 
 def largest_sheets():
-    """Sheets of the largest sizes with every entry, and one in which a multiplier is at its greatest, or passes it, after many steps."""
-    longest = large_sheet(Draws(seed=1), "p=1 D=1024 k=4096", 0, 32_000_000)
+    """Sheets of the largest sizes with every entry, and one in which a multiplier is at its greatest, or passes it,
+    after many steps."""
+    longest = large_sheet(Generator(seed=1), "p=1 D=1024 k=4096", 0, 32_000_000)
+    no_recipe = large_sheet(Generator(seed=2), "D=1 k=99", -9_000_000, 9_000_000)
+    divergence = large_sheet(Generator(seed=3), "p=1024 k=99", -32_000_000, 32_000_000)
     yield Case("longest sheet, 4,096 steps", "plan", bytes_of(longest))
     yield Case("longest sheet and a byte", "refused 3 0", bytes_of(f"{longest} +1"))
     yield Case("longest sheet less a byte", "refused 3 0", bytes_of(f"{longest} -1"))
-    yield Case("longest sheet, no blend", "refused 9", bytes_of(large_sheet(Draws(seed=2), "D=1 k=99", -9_000_000, 9_000_000)))
-    yield Case("longest sheet, run away", "refused 10", bytes_of(large_sheet(Draws(seed=3), "p=1024 k=99", -32_000_000, 32_000_000)))
-    # Dear materials that no limit uses. Each step moves the multiplier by 1,024 times -b, and has the value -b times the multiplier.
+    yield Case("longest sheet, no recipe", "refused 9", bytes_of(no_recipe))
+    yield Case("longest sheet, divergence", "refused 10", bytes_of(divergence))
+    # Dear materials that no limit uses. Each step moves the multiplier by 1,024 times -b, and its dual value is -b
+    # times the multiplier.
     for b, answer in (-256, f"plan {4_095 * 2**26} {-(2**12) * 4_095 * 2**26} 0"), (-257, "refused 10 4080"):
         text = text_of("n=32 m=1 p=1024 D=1024 k=4096", [[10_000] * 32, [], [1_000] * 32, [0] * 32 + [b]])
-        yield Case(f"4,096 steps with a miss of {-b}", answer, bytes_of(text))
+        yield Case(f"4,096 steps with a residual of {-b}", answer, bytes_of(text))
 
 
 def framed_sheets(crate, after):
@@ -121,7 +128,7 @@ def framed_sheets(crate, after):
         at, number = end + after, number + 1
 
 
-def once(cases):
+def without_repeats(cases):
     """Each sheet once, with its first name."""
     return list({case.sheet: case for case in reversed(cases)}.values())[::-1]
 
@@ -133,9 +140,10 @@ def named_edges():
     cases += damaged_sheets()
     for name, inside, entry, sheet in ends_of_figures():
         cases.append(Case(name, "plan" if inside else f"refused 6 {entry}", sheet))
-    return once([*cases, *ends_of_sizes(), *ends_of_keys(), *largest_sheets()])
+    return without_repeats([*cases, *ends_of_sizes(), *ends_of_keys(), *largest_sheets()])
 
 
 def edges():
     """The fixed sheets: those with names, and those that the programs `gate_plan` and `gate_read` are run on."""
-    return once([*named_edges(), *framed_sheets("gate_plan", after=2), *framed_sheets("gate_read", after=0)])
+    framed = *framed_sheets("gate_plan", after=2), *framed_sheets("gate_read", after=0)
+    return without_repeats([*named_edges(), *framed])

@@ -1,4 +1,5 @@
-"""A planner written straight from document 01, in exact integers. It shares nothing with the project's code or definitions.
+"""A planner in exact integers, written from the rules of the task alone (docs/TASK.md, T1 to T8), never from the code.
+It shares nothing with the project's code or definitions.
 
     plan(sheet, buffer)     the answer in words, the figures of a plan, and the buffer after
     listing(sheet)          what batchplan prints
@@ -18,7 +19,7 @@ class Refused(Exception):
 
 
 class Sheet(NamedTuple):
-    """The sizes of a sheet, and its figures: a figure that has no entry is 0. a and b have a row for each limit."""
+    """The sizes of a sheet, and its figures: one that has no entry is 0 (T3.3). a and b have a row for each limit."""
 
     n: int
     m: int
@@ -33,36 +34,36 @@ class Sheet(NamedTuple):
 
 
 class Step(NamedTuple):
-    """What a step gives, with the multipliers that leave it."""
+    """What a step gives (T4.3 to T4.5), with the multipliers that it hands on (T4.7)."""
 
     amounts: tuple
-    misses: tuple
-    value: int
+    residuals: tuple
+    dual_value: int
     multipliers: tuple
 
 
 class Plan(NamedTuple):
-    """The figures of a plan."""
+    """The figures of a plan (T5)."""
 
     k: int
     low: int
     gap: int
     sums: tuple
     multipliers: tuple
-    overshoots: tuple
+    residual_totals: tuple
 
 
 class Rules(NamedTuple):
-    """Three rules of document 01. A test puts a wrong one in place of one of them, to see that it finds the fault."""
+    """The rules T4.3, T5.4 and refusal 5's place. A test puts a wrong one in place of one, to see that it finds it."""
 
-    amount: Callable = lambda weight, least, most: most if weight < 0 else least
+    amount: Callable = lambda reduced_cost, least, most: most if reduced_cost < 0 else least
     gap: Callable = lambda cost, bound: cost - bound
     place_of_key: Callable = lambda entry: entry
 
 
 RULES = Rules()
 
-# The table of ranges: the row decides what a figure means.
+# The ranges of the figures (T3.2). The row decides what a figure means.
 COST, AMOUNT, A, B = (-10_000, 10_000), (1, 1_000), (-1_000, 1_000), (-32_000_000, 32_000_000)
 
 
@@ -74,15 +75,15 @@ def range_of(n, key):
     return B if column == n else A
 
 
-def bad_key(n, m, key, before):
+def is_bad_key(n, m, key, before):
     row, column = divmod(key, 64)
     return row > m + 2 or column > n or (column == n and row <= 2) or key <= before
 
 
 def test_entries(n, m, keys, values, rules):
-    """Refusals 5 and 6, each over all entries. The first entry has no key before it."""
+    """Refusals 5 and 6, each over all entries (T7.3). The first entry has no key before it."""
     for entry, (key, before) in enumerate(zip(keys, (-1, *keys))):
-        if bad_key(n, m, key, before):
+        if is_bad_key(n, m, key, before):
             raise Refused(5, rules.place_of_key(entry))
     for entry, (key, value) in enumerate(zip(keys, values)):
         least, greatest = range_of(n, key)
@@ -91,7 +92,7 @@ def test_entries(n, m, keys, values, rules):
 
 
 def read(sheet, rules=RULES):
-    """The sheet of some bytes. Refusals 1 to 7 are tested in rising order."""
+    """The sheet of some bytes (T2). Refusals 1 to 7 are tested in rising order (T7.3)."""
     if len(sheet) < 12:
         raise Refused(1, 0)
     n, m, e, p, D, k = struct.unpack_from("<6H", sheet)
@@ -117,31 +118,32 @@ def dot(xs, ys):
     return sum(map(mul, xs, ys))
 
 
-def dearest(s):
-    """The dearest cost that the bounds allow."""
+def greatest_cost(s):
+    """The greatest cost that the bounds leave (T4.6)."""
     return dot(s.c, [u if c > 0 else l for c, l, u in zip(s.c, s.l, s.u)])
 
 
 def columns(s):
-    """For each material its a figures, by limits."""
+    """For each material its coefficients, by limits."""
     return tuple(zip(*s.a)) or ((),) * s.n
 
 
 def step(s, by_material, multipliers, rules=RULES):
-    """The step at given multipliers: step rules 1 and 2, and the new multipliers of step rule 4."""
-    weights = [s.D * c + dot(multipliers, column) for c, column in zip(s.c, by_material)]
-    amounts = tuple(map(rules.amount, weights, s.l, s.u))
-    misses = tuple(dot(row, amounts) - b for row, b in zip(s.a, s.b))
-    value = s.D * dot(s.c, amounts) + dot(multipliers, misses)
-    return Step(amounts, misses, value, tuple(max(0, M + s.p * miss) for M, miss in zip(multipliers, misses)))
+    """The step at given multipliers (T4.2 to T4.5), with the moved ones (T4.7)."""
+    reduced_costs = [s.D * c + dot(multipliers, column) for c, column in zip(s.c, by_material)]
+    amounts = tuple(map(rules.amount, reduced_costs, s.l, s.u))
+    residuals = tuple(dot(row, amounts) - b for row, b in zip(s.a, s.b))
+    dual_value = s.D * dot(s.c, amounts) + dot(multipliers, residuals)
+    moved = tuple(max(0, M + s.p * residual) for M, residual in zip(multipliers, residuals))
+    return Step(amounts, residuals, dual_value, moved)
 
 
-def walk(s, rules=RULES):
-    """The steps 0 to k−1, one after the other: step rules 3 and 4."""
-    multipliers, by_material, dearest_value = (0,) * s.m, columns(s), s.D * dearest(s)
+def steps_of(s, rules=RULES):
+    """The steps 0 to k−1, one after the other (T5), unless one is refused (T4.6, T4.8)."""
+    multipliers, by_material, greatest_value = (0,) * s.m, columns(s), s.D * greatest_cost(s)
     for t in range(s.k):
         done = step(s, by_material, multipliers, rules)
-        if done.value > dearest_value:
+        if done.dual_value > greatest_value:
             raise Refused(9, t)
         if any(M > 1_073_741_824 for M in done.multipliers):
             raise Refused(10, t)
@@ -156,12 +158,12 @@ def totals(rows):
 
 @lru_cache(maxsize=1)
 def run(s, rules=RULES):
-    """The plan after k steps. The last is kept, because a test plans a sheet with several buffers."""
-    steps = list(walk(s, rules))
-    low = max(each.value for each in steps)
+    """The plan after k steps (T5). The last is kept, because a test plans a sheet with several buffers."""
+    steps = list(steps_of(s, rules))
+    low = max(each.dual_value for each in steps)
     sums = totals(each.amounts for each in steps)
     gap = rules.gap(s.D * dot(s.c, sums), s.k * low)
-    return Plan(s.k, low, gap, sums, steps[-1].multipliers, totals(each.misses for each in steps))
+    return Plan(s.k, low, gap, sums, steps[-1].multipliers, totals(each.residuals for each in steps))
 
 
 def record_length(n, m):
@@ -171,46 +173,48 @@ def record_length(n, m):
 LONGEST_RECORD = record_length(32, 16)
 
 
-def record_of(made):
-    """The bytes of a plan's record."""
-    n, m = len(made.sums), len(made.multipliers)
-    arrays = *made.sums, *made.multipliers, *made.overshoots
-    return struct.pack(f"<3H2q{n}I{m}i{m}q", n, m, made.k, made.low, made.gap, *arrays)
+def record_of(figures):
+    """The bytes of a plan's record (T6.1)."""
+    n, m = len(figures.sums), len(figures.multipliers)
+    arrays = *figures.sums, *figures.multipliers, *figures.residual_totals
+    return struct.pack(f"<3H2q{n}I{m}i{m}q", n, m, figures.k, figures.low, figures.gap, *arrays)
 
 
 def plan(sheet, buffer, rules=RULES):
-    """The answer to a sheet in words, the figures of a plan or None, and the buffer after."""
+    """The answer to a sheet in words, the figures of a plan or None, and the buffer after (T6, T7)."""
     try:
         s = read(sheet, rules)
         if len(buffer) < record_length(s.n, s.m):
             raise Refused(8, record_length(s.n, s.m))
-        made = run(s, rules)
+        figures = run(s, rules)
     except Refused as refusal:
         return str(refusal), None, buffer
-    record = record_of(made)
-    return f"plan {made.low} {made.gap}", made, record + buffer[len(record) :]
+    record = record_of(figures)
+    return f"plan {figures.low} {figures.gap}", figures, record + buffer[len(record) :]
 
 
-def in_words(answer, made):
+def in_words(answer, figures):
     """The answer to a sheet and the arrays of a plan, in a line."""
-    return " ".join(map(str, [answer, *made.sums, *made.multipliers, *made.overshoots] if made else [answer]))
+    arrays = (*figures.sums, *figures.multipliers, *figures.residual_totals) if figures else ()
+    return " ".join(map(str, [answer, *arrays]))
 
 
-def listing_of(answer, made):
-    """The listing of an answer."""
-    if made is None:
+def listing_of(answer, figures):
+    """The listing of an answer (T8)."""
+    if figures is None:
         return f"{answer}\n".encode()
-    lines = [f"steps {made.k}"]
-    lines += [f"mat {j} {total}" for j, total in enumerate(made.sums)]
-    lines += [f"lim {i} {M} {overshoot}" for i, (M, overshoot) in enumerate(zip(made.multipliers, made.overshoots))]
-    lines += [f"low {made.low}", f"gap {made.gap}"]
+    lines = [f"steps {figures.k}"]
+    lines += [f"mat {j} {total}" for j, total in enumerate(figures.sums)]
+    limits = zip(figures.multipliers, figures.residual_totals)
+    lines += [f"lim {i} {M} {total}" for i, (M, total) in enumerate(limits)]
+    lines += [f"low {figures.low}", f"gap {figures.gap}"]
     return "".join(f"{line}\n" for line in lines).encode()
 
 
 def listing(sheet, rules=RULES):
-    """What batchplan prints for a sheet. Its buffer takes every record."""
-    answer, made, _ = plan(sheet, bytes(LONGEST_RECORD), rules)
-    return listing_of(answer, made)
+    """What batchplan prints for a sheet. Its buffer takes every record (T10.2)."""
+    answer, figures, _ = plan(sheet, bytes(LONGEST_RECORD), rules)
+    return listing_of(answer, figures)
 
 
 def read_listing(text):
@@ -221,8 +225,8 @@ def read_listing(text):
     (k,), (low,), (gap,) = (map(int, lines[place][1:]) for place in (0, -2, -1))
     sums = tuple(int(words[2]) for words in lines if words[0] == "mat")
     limits = [(int(words[2]), int(words[3])) for words in lines if words[0] == "lim"]
-    multipliers, overshoots = zip(*limits) if limits else ((), ())
-    answer, made = f"plan {low} {gap}", Plan(k, low, gap, sums, multipliers, overshoots)
-    if listing_of(answer, made) != text:
+    multipliers, residual_totals = zip(*limits) if limits else ((), ())
+    answer, figures = f"plan {low} {gap}", Plan(k, low, gap, sums, multipliers, residual_totals)
+    if listing_of(answer, figures) != text:
         raise ValueError(f"no listing: {text}")
-    return answer, made
+    return answer, figures

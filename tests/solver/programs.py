@@ -1,4 +1,5 @@
-"""The project's programs: where they stand, how they are run, and the files of standard input and output that rt runs them on."""
+"""The project's programs: where they stand, how they are run, and the files of standard input and output that rt runs
+them on."""
 import subprocess
 import sys
 import time
@@ -20,36 +21,47 @@ def program_at(path):
     return Path(path).resolve()
 
 
-def printed(program, content):
+def printed(program, content, arguments=()):
     """The exit status of a program, its standard output and its standard error, for a standard input."""
     try:
-        done = subprocess.run([program], input=content, capture_output=True, timeout=SECONDS)
+        done = subprocess.run([program, *arguments], input=content, capture_output=True, timeout=SECONDS)
     except subprocess.TimeoutExpired:
         raise RuntimeError(f"{program} does not end on the input {content[:4_000].hex()}") from None
     return done.returncode, done.stdout, done.stderr
 
 
-def feed(pipe, pieces, late):
-    """Writes pieces into a pipe, one after the other, and waits. Who reads may go away as soon as it has read enough."""
+def write_slowly(pipe, pieces, wait):
+    """Writes pieces into a pipe, one after the other, and waits. The reader may go away when it has read enough."""
     try:
         for piece in pieces:
             pipe.write(piece)
             time.sleep(0.001)
-        time.sleep(late)
+        time.sleep(wait)
     except BrokenPipeError:
         pass
 
 
-def printed_when_fed(program, pieces, late):
-    """As `printed`, where the standard input is a pipe into which pieces come slowly, and which is closed some time after the last."""
-    with subprocess.Popen([program], stdin=subprocess.PIPE, stdout=subprocess.PIPE, stderr=subprocess.PIPE, bufsize=0) as process:
-        feed(process.stdin, pieces, late)
+def printed_for_pieces(program, pieces, wait):
+    """As `printed`, where the standard input is a pipe into which pieces come slowly, and which is closed some time
+    after the last."""
+    pipes = {"stdin": subprocess.PIPE, "stdout": subprocess.PIPE, "stderr": subprocess.PIPE}
+    with subprocess.Popen([program], bufsize=0, **pipes) as process:
+        write_slowly(process.stdin, pieces, wait)
         try:
             output, errors = process.communicate(timeout=SECONDS)
         except subprocess.TimeoutExpired:
             process.kill()
-            raise RuntimeError(f"{program} does not end when it is fed slowly") from None
+            raise RuntimeError(f"{program} does not end when its input comes slowly") from None
     return process.returncode, output, errors
+
+
+def printed_for_file(program, descriptor):
+    """As `printed`, where the standard input is an open file or pipe. None is the exit status where it does not end."""
+    try:
+        done = subprocess.run([program], stdin=descriptor, capture_output=True, timeout=SECONDS)
+    except subprocess.TimeoutExpired:
+        return None, b"", b""
+    return done.returncode, done.stdout, done.stderr
 
 
 def faults_of_files(crate, stdin, stdout, write):

@@ -1,4 +1,5 @@
-"""Sheets as bytes from readable text, document 01's marked sheets, and families of sheets that more than one test is run on."""
+"""Sheets as bytes from readable text, the worked sheets C1 to C10, and families of sheets that more than one test is
+run on."""
 import struct
 from itertools import combinations
 from typing import NamedTuple
@@ -7,7 +8,8 @@ from planner import record_length
 
 
 class Case(NamedTuple):
-    """A sheet with its name and, where there is one, the answer by hand: the whole listing, or the answer in words or its beginning."""
+    """A sheet with its name and, where there is one, the answer by hand: the whole listing, or the answer in words or
+    its beginning."""
 
     name: str
     by_hand: str
@@ -26,25 +28,27 @@ def lines_of(table):
             yield [column.strip() for column in line.split("|")]
 
 
-# Document 01's marked sheets, and by hand what batchplan prints for each. A slash ends a line of the listing.
+# The worked sheets (T11.2), and by hand what batchplan prints for each. A slash ends a line of the listing.
 TABLE = """
-C1  | n=2 m=1 D=8 k=4 0:3 1:1 128:10 129:10 192:-2 193:-1 194:-12 | steps 4/mat 0 10/mat 1 20/lim 0 12 8/low 104/gap -16/
-C2  | n=2 m=1 D=8 k=1 0:3 1:1 128:10 129:10 192:-2 193:-1 194:-12 | steps 1/mat 0 0/mat 1 0/lim 0 12 12/low 0/gap 0/
-C3  | n=1 m=1 k=2 0:1 128:1 192:-1 193:-5                         | refused 9 1/
-C4  | n=1 m=1 k=1 0:1 128:1 192:-1 193:-5                         | steps 1/mat 0 0/lim 0 5 5/low 0/gap 0/
-C5  | n=1 m=1 p=1024 193:-1048577                                 | refused 10 0/
-C6  | n=1 m=1 p=1024 193:-1048576                                 | steps 1/mat 0 0/lim 0 1073741824 1048576/low 0/gap 0/
-C7  | n=1 m=0                                                     | steps 1/mat 0 0/low 0/gap 0/
-C8  | n=1 m=0 k=2 0:-2 128:3                                      | steps 2/mat 0 6/low -6/gap 0/
-C9  | n=1 m=0 0:5 64:4 128:4                                      | steps 1/mat 0 4/low 20/gap 0/
-C10 | n=1 m=0 64:4 128:3                                          | refused 7 0/
+C1  | n=2 m=1 D=8 k=4 0:3 1:1 128:10 129:10 192:-2 193:-1 194:-12 \
+    | steps 4/mat 0 10/mat 1 20/lim 0 12 8/low 104/gap -16/
+C2  | n=2 m=1 D=8 k=1 0:3 1:1 128:10 129:10 192:-2 193:-1 194:-12 \
+    | steps 1/mat 0 0/mat 1 0/lim 0 12 12/low 0/gap 0/
+C3  | n=1 m=1 k=2 0:1 128:1 192:-1 193:-5 | refused 9 1/
+C4  | n=1 m=1 k=1 0:1 128:1 192:-1 193:-5 | steps 1/mat 0 0/lim 0 5 5/low 0/gap 0/
+C5  | n=1 m=1 p=1024 193:-1048577         | refused 10 0/
+C6  | n=1 m=1 p=1024 193:-1048576         | steps 1/mat 0 0/lim 0 1073741824 1048576/low 0/gap 0/
+C7  | n=1 m=0                             | steps 1/mat 0 0/low 0/gap 0/
+C8  | n=1 m=0 k=2 0:-2 128:3              | steps 2/mat 0 6/low -6/gap 0/
+C9  | n=1 m=0 0:5 64:4 128:4              | steps 1/mat 0 4/low 20/gap 0/
+C10 | n=1 m=0 64:4 128:3                  | refused 7 0/
 """
 MARKED = {name: sheet for name, sheet, _ in lines_of(TABLE)}
 LISTINGS = {name: text.replace("/", "\n").encode() for name, _, text in lines_of(TABLE)}
 
 
 def words_of(text):
-    """The words of a sheet's text. The name of a marked sheet stands for its words."""
+    """The words of a sheet's text. The name of a worked sheet stands for its words."""
     for word in text.split():
         yield from MARKED.get(word, word).split()
 
@@ -56,8 +60,9 @@ def packed(sizes, entries):
 
 
 def bytes_of(text):
-    """The bytes of a sheet. Its text has sizes, as n=2; entries, as key:value or row.column:value; and last by how many bytes the sheet is
-    made longer or shorter, as +1. Unnamed p, D, k are 1, m is 0, and e is the number of entries; of a size named twice the last counts."""
+    """The bytes of a sheet. Its text has sizes, as n=2; entries, as key:value or row.column:value; and last by how many
+    bytes the sheet is made longer or shorter, as +1. Unnamed p, D, k are 1, m is 0, and e is the number of entries; of
+    a size named twice the last counts."""
     sizes, entries, change = {"m": 0, "p": 1, "D": 1, "k": 1}, [], 0
     for word in words_of(text):
         if "=" in word:
@@ -85,7 +90,7 @@ def framed(part):
     return struct.pack("<H", len(part)) + part
 
 
-def fitting(sheet):
+def record_length_of(sheet):
     """The length of the record of a sheet. Sizes that are out of range or missing count as the largest."""
     n, m = struct.unpack_from("<2H", sheet) if len(sheet) >= 4 else (32, 16)
     return record_length(min(n, 32), min(m, 16))
@@ -97,7 +102,8 @@ def lent(length):
 
 
 def full(n, m, sizes="p=7 D=512 k=300"):
-    """A sheet with every entry that n and m allow. No two figures of a kind are equal, and those that may be negative have both signs."""
+    """A sheet with every entry that n and m allow. No two figures of a kind are equal, and those that may be negative
+    have both signs."""
     rows = [[key * 611 % 20_001 - 10_000 for key in range(n)]]
     rows += [[key * 7 % 500 + 1 for key in range(64, 64 + n)], [key * 11 % 500 + 501 for key in range(128, 128 + n)]]
     for first in range(192, 64 * (m + 3), 64):
@@ -117,8 +123,8 @@ OPEN = [
 
 
 def ends_of_figures():
-    """The last values inside the range of each kind of figure, and then the first outside it and 0: a name, whether the value is inside,
-    its entry, and the sheet."""
+    """The last values inside the range of each kind of figure, and then the first outside it and 0: a name, whether the
+    value is inside, its entry, and the sheet."""
     for name, text, least, greatest, entry in OPEN:
         for value in least, greatest:
             yield f"{name} {value}", True, entry, bytes_of(text.format(value))
@@ -126,7 +132,8 @@ def ends_of_figures():
             yield f"{name} {value}", False, entry, bytes_of(text.format(value))
 
 
-# A sound sheet, and a damage to it for each of refusals 1 to 7, with its place. The first leaves 11 bytes, which is a wrong length too.
+# A sound sheet, and a damage to it for each of refusals 1 to 7, with its place. The first leaves 11 bytes, which is a
+# wrong length too.
 PARTS = "n={n} m=1 p={p} 0.0:{value} 1.0:{least} 2.0:10 {key}:5 {change}"
 SOUND = {"n": 2, "p": 1, "value": 3, "least": 4, "key": "3.0", "change": 0}
 DAMAGES = [
@@ -141,9 +148,10 @@ DAMAGES = [
 
 
 def damaged_sheets():
-    """The sound sheet with each damage alone, and with each two of them, of which the first is due."""
+    """The sound sheet with each damage alone, and with each two of them, of which the first is named."""
     for number, place, damage in DAMAGES:
-        yield Case(f"refusal {number} alone", f"refused {number} {place}", bytes_of(PARTS.format(**{**SOUND, **damage})))
+        alone = PARTS.format(**{**SOUND, **damage})
+        yield Case(f"refusal {number} alone", f"refused {number} {place}", bytes_of(alone))
     for (number, place, damage), (other, _, later) in combinations(DAMAGES, 2):
         both = PARTS.format(**{**SOUND, **later, **damage})
         yield Case(f"refusals {number} and {other}", f"refused {number} {place}", bytes_of(both))

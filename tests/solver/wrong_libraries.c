@@ -1,0 +1,144 @@
+/*
+ * Libraries that are wrong on purpose, each in one thing. tests/archive must find every one.
+ *
+ * NAME_plan stands for batchplan_plan and NAME_listing for batchplan_listing. Where there is only one of them, the
+ * other is the archive's.
+ */
+#include "batchplan.h"
+
+#include <string.h>
+
+#define PLAN(name)                                                                                                  \
+    size_t name##_plan(const uint8_t *sheet, size_t sheet_bytes, uint8_t *record, size_t record_bytes, size_t *place, \
+                       int64_t *low, int64_t *gap)
+#define LISTING(name) size_t name##_listing(const uint8_t *sheet, size_t sheet_bytes, uint8_t *text, size_t text_bytes)
+#define RIGHT_PLAN batchplan_plan(sheet, sheet_bytes, record, record_bytes, place, low, gap)
+#define RIGHT_LISTING batchplan_listing(sheet, sheet_bytes, text, text_bytes)
+
+static unsigned two_bytes(const uint8_t *from)
+{
+    return from[0] + 256u * from[1];
+}
+
+/* A copy of a sheet without the entries of every limit after the first: row 3 ends below key 256, and keys rise. */
+static size_t with_first_limit(const uint8_t *sheet, uint8_t *copy)
+{
+    size_t e = two_bytes(sheet + 4), kept = 0;
+    while (kept < e && two_bytes(sheet + 12 + 2 * kept) < 256) kept++;
+    memcpy(copy, sheet, 12 + 2 * kept);
+    memcpy(copy + 12 + 2 * kept, sheet + 12 + 2 * e, 4 * kept);
+    copy[4] = kept % 256;
+    copy[5] = kept / 256;
+    return 12 + 6 * kept;
+}
+
+/* Ignores every limit after the first. */
+PLAN(first_limit)
+{
+    uint8_t copy[BATCHPLAN_SHEET_BYTES], own[BATCHPLAN_RECORD_BYTES];
+    size_t own_bytes = record_bytes < sizeof own ? record_bytes : sizeof own;
+    size_t number = batchplan_plan(sheet, sheet_bytes, own, own_bytes, place, low, gap);
+    if (number >= BATCHPLAN_SHORT && number <= BATCHPLAN_BUFFER) return number;
+    return batchplan_plan(copy, with_first_limit(sheet, copy), record, record_bytes, place, low, gap);
+}
+
+/* Gives low for gap. */
+PLAN(low_for_gap)
+{
+    size_t number = RIGHT_PLAN;
+    *gap = *low;
+    return number;
+}
+
+/* Gives the place of a refusal as one more than it is. */
+PLAN(next_place)
+{
+    size_t number = RIGHT_PLAN;
+    *place += number != BATCHPLAN_PLAN;
+    return number;
+}
+
+/* Changes the byte after the record, where the buffer has one. */
+PLAN(byte_after_record)
+{
+    size_t number = RIGHT_PLAN;
+    size_t end = number == BATCHPLAN_PLAN ? 22 + 4 * two_bytes(record) + 12 * two_bytes(record + 2) : record_bytes;
+    if (end < record_bytes) record[end] ^= 1;
+    return number;
+}
+
+/* Leaves a byte of a refused sheet's work in the buffer. */
+PLAN(byte_at_refusal)
+{
+    size_t number = RIGHT_PLAN;
+    if (number != BATCHPLAN_PLAN && record_bytes > 0) record[record_bytes - 1] ^= 1;
+    return number;
+}
+
+/* Writes one byte outside the buffer, after it or before it. */
+PLAN(write_after_record)
+{
+    ((volatile uint8_t *)record)[record_bytes] = 0;
+    return RIGHT_PLAN;
+}
+
+PLAN(write_before_record)
+{
+    ((volatile uint8_t *)record)[-1] = 0;
+    return RIGHT_PLAN;
+}
+
+/* Reads one byte outside the sheet, after it or before it; or writes to the sheet. */
+PLAN(read_after_sheet)
+{
+    (void)((const volatile uint8_t *)sheet)[sheet_bytes];
+    return RIGHT_PLAN;
+}
+
+PLAN(read_before_sheet)
+{
+    (void)((const volatile uint8_t *)sheet)[-1];
+    return RIGHT_PLAN;
+}
+
+PLAN(write_to_sheet)
+{
+    if (sheet_bytes > 0) *(volatile uint8_t *)(uintptr_t)sheet = sheet[0];
+    return RIGHT_PLAN;
+}
+
+LISTING(read_after_listed_sheet)
+{
+    (void)((const volatile uint8_t *)sheet)[sheet_bytes];
+    return RIGHT_LISTING;
+}
+
+/* Writes as much of a listing as there is room for. */
+LISTING(cut_listing)
+{
+    uint8_t own[BATCHPLAN_LISTING_BYTES];
+    size_t length = batchplan_listing(sheet, sheet_bytes, own, sizeof own);
+    memcpy(text, own, length < text_bytes ? length : text_bytes);
+    return length <= text_bytes ? length : 0;
+}
+
+/* Closes a listing with a byte of 0, where there is room. */
+LISTING(closing_zero)
+{
+    size_t length = RIGHT_LISTING;
+    if (length < text_bytes && length > 0) text[length] = 0;
+    return length;
+}
+
+/* Writes one byte outside the text, after it or before it. */
+LISTING(write_after_text)
+{
+    ((volatile uint8_t *)text)[text_bytes] = 0;
+    return RIGHT_LISTING;
+}
+
+LISTING(write_before_text)
+{
+    ((volatile uint8_t *)text)[-1] = 0;
+    return RIGHT_LISTING;
+}
