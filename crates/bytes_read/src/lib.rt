@@ -18,7 +18,7 @@ const HALVES: [u64; 9] = [
 ];
 
 // The unsigned number in the `width` bytes from place `at` on.
-pub fn unsigned_at(s: &[u8], at: usize, width: usize) -> u64
+fn unsigned_at(s: &[u8], at: usize, width: usize) -> u64
     requires { ⌜ Inside width (now s) at ⌝ }
     ensures { λ r. ⌜ ReadUnsigned width (now (s .entry)) at r ⌝ }
 {

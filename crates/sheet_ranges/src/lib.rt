@@ -52,7 +52,8 @@ fn index_of(kind: Kind) -> usize
     }
 }
 
-// The range of a kind of figure.
+// The range of a kind of figure: an entry of the table.
+// for those who write and change sheets, too, who are to consult the same entries
 pub fn range_of(kind: Kind) -> Range
     ensures { λ r. ⌜ r ≡ rangeOf kind ⌝ }
 {
