@@ -1,4 +1,4 @@
--- The numbers are those of what the planner's answer stands for, and that is document 01's answer.
+-- The numbers are those of what the planner's answer stands for, and that is the answer to the sheet (T7.1).
 use mathlib.Core.Path.{ap, subst, _∙_}
 use native.Mathlib.Omega.{arith}
 use mir.Syntax.{w64}

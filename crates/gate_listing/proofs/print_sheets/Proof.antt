@@ -1,4 +1,4 @@
--- `gate_listing::print_sheets` meets its contract. A frame begins inside the input, and the next one begins after it.
+-- A frame begins inside the input, and the next one begins after it.
 use Prim.Native.Nat.{_-_, _≤_}
 use borrow.Author.Needs.{needs}
 use lib.ListN.{length}
