@@ -27,6 +27,10 @@ module _ (c : tie.After-known-told Inv-loop μ-loop) where
       (at-start .start .given .0 .1 .0)
   lies = sheet-lies _ _ _ (cc (called .frame-at .ensures, at-start .start .given .1))
 
+-- where the sheet was printed: the frame that was found
+abbrev framed : tie.After-print-listing Inv-loop μ-loop → tie.After-known-told Inv-loop μ-loop
+framed c = c .before .before
+
 pub print-sheets-spec : {M : Type 1} → statement M
 print-sheets-spec =
     tie.close
@@ -42,6 +46,6 @@ print-sheets-spec =
     (λ c. let l = lies c in search needs)
     (λ c. let l = lies c in search needs)
     (λ c κs. search needs)
-    (λ c. let l = lies (c .before .before) in search needs)
-    (λ c. let l = lies (c .before .before) in search needs)
+    (λ c. let l = lies (framed c) in search needs)
+    (λ c. let l = lies (framed c) in search needs)
     (λ c. search needs))

@@ -27,13 +27,13 @@ module _ (c : tie.After-known-told Inv-loop μ-loop) where
       (at-start .start .given .0 .1 .0)
   lies = sheet-lies _ _ _ (cc (called .frame-at .ensures, at-start .start .given .1))
 
--- and of one whose buffer is not too long, before it is printed and after
-module _ (c : tie.Else1 Inv-loop μ-loop) where
-  abbrev framed : tie.After-known-told Inv-loop μ-loop
-  framed = c .before .before
+-- where the buffer's length was tested: the frame that was found
+abbrev framed : tie.Else1 Inv-loop μ-loop → tie.After-known-told Inv-loop μ-loop
+framed c = c .before .before
 
-abbrev lent : tie.After-print-sheet Inv-loop μ-loop → tie.Else1 Inv-loop μ-loop
-lent c = c .before .before
+-- where the sheet was printed: that test
+abbrev tested : tie.After-print-sheet Inv-loop μ-loop → tie.Else1 Inv-loop μ-loop
+tested c = c .before .before
 
 pub print-frames-spec : {M : Type 1} → statement M
 print-frames-spec =
@@ -52,7 +52,7 @@ print-frames-spec =
     (λ c. let l = lies (framed c) in search needs)
     (λ c. let l = lies (framed c) in search needs)
     (λ c κs. search needs)
-    (λ c. let l = lies (framed (lent c)) in search needs)
-    (λ c. let l = lies (framed (lent c)) in search needs)
-    (λ c. let l = lies (framed (lent c)) in search needs)
+    (λ c. let l = lies (framed (tested c)) in search needs)
+    (λ c. let l = lies (framed (tested c)) in search needs)
+    (λ c. let l = lies (framed (tested c)) in search needs)
     (λ c. search needs))

@@ -76,15 +76,18 @@ returns c =
 
 -- ---- from 0 on
 module _ (c : tie.Else1) where
-  is-natural : c .before .before .args .v ≡ pos (mag (c .before .before .args .v))
-  is-natural = natural (c .before .before .args .v) (simp (toZ-ofZ (c .before .before .fits .v)) at (c .if1 .left))
+  abbrev start : tie.Start
+  start = c .before .before
 
-  own-bits : toZ w64 (ofZ w64 (c .before .before .args .v)) ≡ pos (mag (c .before .before .args .v))
-  own-bits = toZ-ofZ (c .before .before .fits .v) ∙ is-natural
+  is-natural : start .args .v ≡ pos (mag (start .args .v))
+  is-natural = natural (start .args .v) (simp (toZ-ofZ (start .fits .v)) at (c .if1 .left))
+
+  own-bits : toZ w64 (ofZ w64 (start .args .v)) ≡ pos (mag (start .args .v))
+  own-bits = toZ-ofZ (start .fits .v) ∙ is-natural
 
 cast-put-number-2 : tie.Need-cast-put-number-2
 cast-put-number-2 c =
-    simp (own-bits (c .before)) (tt, record { fits = omega (arith, c .before .before .before .fits .v .sfits) })
+    simp (own-bits (c .before)) (tt, record { fits = omega (arith, start (c .before) .fits .v .sfits) })
 
 returns-2 : tie.Need-returns-2
 returns-2 c =
