@@ -1,7 +1,6 @@
 // batchplan: prints the listing of the batch sheet on standard input.
 //
-// It reads to the end of the input, or to one byte past the longest sheet, which is enough to know an overlong sheet for
-// what it is.
+// It reads to the end of the input, or to one byte past the longest sheet: by then the answer is settled (T10.1).
 // Where the input cannot be read, or the listing cannot be written, it says so on standard error.
 use batchplan_lib::batchplan_listing;
 use libc::STDERR_FILENO;
@@ -10,10 +9,10 @@ use libc::STDOUT_FILENO;
 ghost use Prim.Native.Nat.{_≤_};
 ghost use lib.ListN.{length};
 
-// One byte more than the longest sheet has.
+// One byte more than the longest sheet has (T2.6).
 const BYTES: usize = 3757;
 
-// The room for a listing. It takes every listing.
+// The room for a listing. It takes every listing (T8.4).
 const ROOM: usize = 4096;
 
 // How many bytes were read, and whether a read failed.
@@ -47,7 +46,6 @@ fn read_input(sheet: &mut [u8]) -> Input
     }
 }
 
-// Prints the listing of a sheet.
 fn print_listing(sheet: &[u8]) {
     let mut out = [0u8; ROOM];
     let end = batchplan_listing(sheet, &mut out);

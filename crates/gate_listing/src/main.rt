@@ -2,24 +2,22 @@
 //
 // A sheet comes in a frame (see `gate_frames`) with nothing after it. A frame that is cut short ends the run.
 //
-// `tests/compare` makes the sheets, and works out from document 01 what is to be printed.
+// `tests/compare` makes the sheets, and works out with `tests/solver` what is to be printed.
 use batchplan_lib::batchplan_listing;
 use gate_frames::Frame;
 use gate_frames::frame_at;
 use gate_frames::write_line;
 use libc::STDIN_FILENO;
 
-// The room for a listing. It takes every listing.
+// The room for a listing. It takes every listing (T8.4).
 const ROOM: usize = 4096;
 
-// Prints the listing of a sheet.
 fn print_listing(sheet: &[u8]) {
     let mut out = [0u8; ROOM];
     let end = batchplan_listing(sheet, &mut out);
     write_line(&out, end);
 }
 
-// Prints the listing of each sheet of the input.
 fn print_sheets(input: &[u8]) {
     let mut at = 0;
     while at < input.len() {

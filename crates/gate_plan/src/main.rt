@@ -9,7 +9,7 @@
 // The line of a plan is `plan`, low and gap. That of a refusal is `refused`, the number and the place. Then comes
 // every byte of the buffer, in two hexadecimal digits: the record, and the bytes that must stay as lent.
 //
-// `tests/gate_plan` makes the frames, and works out from document 01 what is to be printed.
+// `tests/gate_plan` makes the frames, and works out with `tests/solver` what is to be printed.
 use bytes_read::size_at;
 use gate_frames::Frame;
 use gate_frames::frame_at;
@@ -24,7 +24,7 @@ use rules::Answer;
 use rules::Refusal;
 ghost use Prim.Native.Nat.{_≤_};
 
-// The longest buffer. The longest record has 342 bytes.
+// The longest buffer. The longest record has 342 bytes (T6.2).
 const LENT: usize = 400;
 
 // The room for a line. A line takes less than 900 bytes.
@@ -103,7 +103,6 @@ fn print_sheet(sheet: &[u8], lent: usize)
     print_plan(sheet, &mut buffer[0..lent]);
 }
 
-// Prints the line of each frame of the input.
 fn print_frames(input: &[u8]) {
     let mut at = 0;
     while at < input.len() {

@@ -3,11 +3,11 @@
 // A sheet comes in a frame (see `gate_frames`) with nothing after it. A frame that is cut short ends the run.
 //
 // The line of a refused sheet is `refused`, the number and the place. That of an accepted sheet is `accepted`, the
-// sizes n, m, p, D and k, and every figure that is not 0: costs, least amounts, most amounts, a and b, as ` c0=3`, `
-// l0=1`, ` u0=10`, ` a0,1=-2` and ` b0=-12`. The arrays are looked at in every place, so that a figure in a wrong
-// place shows.
+// sizes n, m, p, D and k, and every figure that is not 0: costs, least amounts, most amounts, a and b, as `c0=3`,
+// `l0=1`, `u0=10`, `a0,1=-2` and `b0=-12`, each after a space. The arrays are looked at in every place, so that a
+// figure in a wrong place shows.
 //
-// `tests/gate_read` makes the sheets, and works out from document 01 what is to be printed.
+// `tests/gate_read` makes the sheets, and works out with `tests/solver` what is to be printed.
 use gate_frames::Frame;
 use gate_frames::frame_at;
 use gate_frames::write_line;
@@ -111,7 +111,6 @@ fn show_reading(line: &mut [u8], reading: Reading, coefficient: &[i16; 512]) -> 
     }
 }
 
-// Prints the line of a sheet.
 fn print_sheet(sheet: &[u8]) {
     let mut line = [0u8; ROOM];
     let mut coefficient: [i16; 512] = [0; 512];
@@ -120,7 +119,6 @@ fn print_sheet(sheet: &[u8]) {
     write_line(&line, end);
 }
 
-// Prints the line of each sheet of the input.
 fn print_sheets(input: &[u8]) {
     let mut at = 0;
     while at < input.len() {

@@ -1,4 +1,4 @@
-// Where the record has its fields: each begins where the one before ends.
+// Where the record has its fields (T6.1): each begins where the one before ends.
 // A change of places is made here and in `rules`.
 ghost use mathlib.Core.Path.{_≡_};
 ghost use Prim.Native.Nat.{_≤_};
@@ -20,7 +20,7 @@ pub const GAP_AT: usize = LOW_AT + 8;
 // the sums, in 4 bytes each
 pub const SUMS_AT: usize = GAP_AT + 8;
 
-// The length of the longest record: 32 materials and 16 limits.
+// The length of the longest record (T6.2): 32 materials and 16 limits.
 pub const LONGEST: usize = SUMS_AT + 4 * 32 + 4 * 16 + 8 * 16;
 
 // The multipliers come after n sums, in 4 bytes each.

@@ -1,4 +1,5 @@
-// Lines of a listing. Each function puts something at the end of a text, place `at`, and answers the place after it.
+// Lines of a listing (T8.3).
+// Each function puts something at the end of a text, place `at`, and answers the place after it.
 ghost use mathlib.Core.List.{_++_};
 ghost use Prim.Native.Nat.{_≤_};
 ghost use lib.IntN.{pos};

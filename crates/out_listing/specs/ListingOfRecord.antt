@@ -9,7 +9,8 @@ use Rattle.rules.specs.Sheet.{sheetOf}
 use Rattle.rules.specs.Run.{Plan, planAfter}
 use Rattle.rules.specs.Record.{recordLength}
 use Rattle.rules.specs.Refusals.{Numbered, layoutRefusal}
-use Rattle.rules.specs.Answers.{planOf, planRefusal, refusal, outcome, outcomeOf, answerTo, answer, bufferOf, bufferAfter}
+use Rattle.rules.specs.Answers.{planOf, planRefusal, refusal, outcome, outcomeOf}
+use Rattle.rules.specs.Answers.{answerTo, answer, bufferOf, bufferAfter}
 use Rattle.rules.specs.Listing.{textOf, textFrom, listing}
 use Rattle.rules.specs.Promise.{Promise}
 use Rattle.proof_laws.specs.NotRefused.{otherwise-none}

@@ -1,4 +1,4 @@
-// The listing of an answer: its text, out of the answer and its record.
+// The listing of an answer (T8.1, T8.2): its text, out of the answer and its record.
 ghost use Prim.Native.Nat.{_≤_};
 ghost use lib.ListN.{length};
 ghost use Rattle.rules.specs.Answers.{outcome};

@@ -1,4 +1,4 @@
-// Numbers in decimal, put at the end of a text that grows in lent bytes (`out_text`).
+// Numbers in decimal (T8.3), put at the end of a text that grows in lent bytes (`out_text`).
 ghost use mathlib.Core.Path.{_≡_};
 ghost use Prim.Native.Nat.{_<_, _^_};
 ghost use lib.ListN.{length};

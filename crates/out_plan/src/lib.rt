@@ -1,4 +1,4 @@
-// The text of the plan that a record holds.
+// The text of the plan that a record holds (T8.1).
 ghost use mathlib.Core.Bool.{cond};
 ghost use mathlib.Core.List.{[]};
 ghost use Rattle.rules.specs.Record.{recorded, holdsRecord};

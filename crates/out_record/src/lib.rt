@@ -1,4 +1,4 @@
-// The record of a plan into a lent buffer.
+// The record of a plan (T6.1) into a lent buffer.
 ghost use mathlib.Core.Path.{_≡_};
 ghost use mathlib.Core.List.{_++_};
 ghost use lib.ListN.{drop};

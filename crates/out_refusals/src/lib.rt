@@ -1,9 +1,8 @@
-// The numbers of document 01's table of refusals.
+// The numbers of the refusals (T7.4).
 ghost use mathlib.Core.Path.{_≡_};
 ghost use Rattle.rules.specs.Refusals.{numberOf};
 use rules::Cause;
 
-// The number that document 01 gives a cause.
 pub fn number_of(cause: Cause) -> usize
     ensures { λ r. ⌜ r ≡ numberOf cause ⌝ }
 {

@@ -15,7 +15,7 @@ use Rattle.out_text.specs.Text.{Text, put, puts, Puts}
 -- ---- one call after another
 
 -- putting two lists of bytes joined is putting the first and then the second
-pub puts-append : (xs ys : List ℕ) (t : Text) → puts (xs ++ ys) t ≡ puts ys (puts xs t)
+puts-append : (xs ys : List ℕ) (t : Text) → puts (xs ++ ys) t ≡ puts ys (puts xs t)
 unfolding puts
 puts-append [] ys t = refl
 puts-append (x ∷ xs) ys t = puts-append xs ys (put x t)
@@ -46,7 +46,7 @@ length-put b t =
     ]
 
 -- putting keeps the number of bytes
-pub length-puts : (bs : List ℕ) (t : Text) → length (puts bs t .bytes) ≡ length (t .bytes)
+length-puts : (bs : List ℕ) (t : Text) → length (puts bs t .bytes) ≡ length (t .bytes)
 unfolding puts
 length-puts [] t = refl
 length-puts (b ∷ bs) t = length-puts bs (put b t) ∙ length-put b t
@@ -67,7 +67,7 @@ put-after front b x d =
     simp (length-append, lt-ltb _ _ room, set-append-seam, append-snoc)
 
 -- a text put after `front` takes the place of the first bytes of d, where it fits into d
-pub whole-after : (front t d : List ℕ) → length t ≤ length d
+whole-after : (front t d : List ℕ) → length t ≤ length d
     → puts t (record { bytes = front ++ d; end = length front })
     ≡ record { bytes = front ++ t ++ drop (length t) d; end = length front + length t }
 unfolding puts
@@ -79,7 +79,7 @@ whole-after front (b ∷ t) (x ∷ d) h =
     ∙ simp (append-snoc, length-append, add-one, suc-add, add-suc)
 
 -- a text put at the start of d takes the place of the first bytes of d, where it fits into d
-pub whole : (t d : List ℕ) → length t ≤ length d
+whole : (t d : List ℕ) → length t ≤ length d
     → puts t (record { bytes = d; end = 0 }) ≡ record { bytes = t ++ drop (length t) d; end = length t }
 whole t d h = whole-after [] t d h ∙ simp zero-add
 

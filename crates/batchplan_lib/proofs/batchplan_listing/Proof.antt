@@ -14,8 +14,10 @@ returns : tie.Need-returns
 unfolding recordLength
 returns c =
     let written = c .before .before in
-    let planned = written .before .before .before .before in
-    let start = planned .before .before .before .before in
+    let at-answer = written .before .before .before in
+    let planned = at-answer .before in
+    let at-record = planned .before in
+    let start = at-record .before .before .before in
     let lent = start .args .text .now in
     let wrote = written .write-listing in
     let is : textFrom (outcome (planned .plan .result)) (planned .plan .last .1 .0)

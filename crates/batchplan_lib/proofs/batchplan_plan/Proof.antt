@@ -1,4 +1,4 @@
--- The numbers are those of what the planner's answer stands for, and that is document 01's answer.
+-- The numbers are those of what the planner's answer stands for, and that is the answer to the sheet (T7.1).
 use mathlib.Core.Path.{ap, subst, _∙_}
 use native.Mathlib.Omega.{arith}
 use mir.Syntax.{w64}
@@ -14,7 +14,8 @@ returns : tie.Need-returns
 returns c =
     let counted = c .before .before in
     let planned = counted .before .before .before in
-    let start = planned .before .before .before .before in
+    let lent = planned .before in
+    let start = lent .before .before .before in
     let promise = planned .plan .ensures in
     let numbers = counted .numbers-of in
     let low : SFits w64 (numbers .result .low) = record { sfits = omega (arith, c .before .struct-told .given) } in

@@ -1,5 +1,4 @@
--- `gate_frames::frame_at` meets its contract. Each return is of a whole frame, or of one that is cut short, by the
--- tests that led there.
+-- Each return is of a whole frame, or of one that is cut short, by the tests that led there.
 use mathlib.Core.Path.{sym}
 use native.Mathlib.Omega.{arith}
 use borrow.Author.Needs.{needs}

@@ -1,4 +1,4 @@
--- `gate_plan::fill` meets its contract. The loop stays inside the buffer, and the buffer keeps its length.
+-- The loop stays inside the buffer, and the buffer keeps its length.
 use Prim.Native.Nat.{_-_, _≤_}
 use mathlib.Core.Path.{_≡_}
 use borrow.Author.Needs.{needs}

@@ -1,4 +1,4 @@
--- `gate_plan::print_frames` meets its contract. A frame begins inside the input, and the next one begins after it.
+-- A frame begins inside the input, and the next one begins after it.
 use Prim.Native.Nat.{_-_, _≤_}
 use borrow.Author.Needs.{needs}
 use lib.ListN.{length}
@@ -14,12 +14,26 @@ abbrev μ-loop : tie.MeasureT-loop
 
 -- the sheet of a frame that was found
 module _ (c : tie.After-known-told Inv-loop μ-loop) where
-  abbrev turn : tie.At-loop Inv-loop μ-loop
-  turn = c .before .before .before .before .before
+  abbrev at-start : tie.After-start Inv-loop μ-loop
+  at-start = c .before
 
-  lies : SheetLies (turn .before .before .args .input .now) (turn .loop .at) 2 (c .before .start .given .0 .0)
-      (c .before .start .given .0 .1 .0)
-  lies = sheet-lies _ _ _ (cc (c .before .before .before .frame-at .ensures, c .before .start .given .1))
+  abbrev called : tie.After-frame-at Inv-loop μ-loop
+  called = at-start .before .before
+
+  abbrev turn : tie.At-loop Inv-loop μ-loop
+  turn = called .before .before
+
+  lies : SheetLies (turn .before .before .args .input .now) (turn .loop .at) 2 (at-start .start .given .0 .0)
+      (at-start .start .given .0 .1 .0)
+  lies = sheet-lies _ _ _ (cc (called .frame-at .ensures, at-start .start .given .1))
+
+-- where the buffer's length was tested: the frame that was found
+abbrev framed : tie.Else1 Inv-loop μ-loop → tie.After-known-told Inv-loop μ-loop
+framed c = c .before .before
+
+-- where the sheet was printed: that test
+abbrev tested : tie.After-print-sheet Inv-loop μ-loop → tie.Else1 Inv-loop μ-loop
+tested c = c .before .before
 
 pub print-frames-spec : {M : Type 1} → statement M
 print-frames-spec =
@@ -34,11 +48,11 @@ print-frames-spec =
     (λ c. search needs)
     (λ c κs. let l = lies c in search needs)
     (λ c. search needs)
-    (λ c. let l = lies (c .before .before) in search needs)
-    (λ c. let l = lies (c .before .before) in search needs)
-    (λ c. let l = lies (c .before .before) in search needs)
+    (λ c. let l = lies (framed c) in search needs)
+    (λ c. let l = lies (framed c) in search needs)
+    (λ c. let l = lies (framed c) in search needs)
     (λ c κs. search needs)
-    (λ c. let l = lies (c .before .before .before .before) in search needs)
-    (λ c. let l = lies (c .before .before .before .before) in search needs)
-    (λ c. let l = lies (c .before .before .before .before) in search needs)
+    (λ c. let l = lies (framed (tested c)) in search needs)
+    (λ c. let l = lies (framed (tested c)) in search needs)
+    (λ c. let l = lies (framed (tested c)) in search needs)
     (λ c. search needs))

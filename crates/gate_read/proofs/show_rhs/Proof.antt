@@ -1,4 +1,4 @@
--- `gate_read::show_rhs` meets its contract. The loop stays inside the array, and its figures fit 64 bits.
+-- The loop stays inside the array, and its figures fit 64 bits.
 use mathlib.Core.Path.{_≡_}
 use Prim.Native.Nat.{_-_, _≤_}
 use borrow.Author.Needs.{needs}

@@ -10,7 +10,8 @@ returns : tie.Need-returns
 unfolding text
 returns c =
     let number = c .before .before in
-    let space = number .before .before .before .before in
+    let at-parted = number .before .before in
+    let space = at-parted .before .before in
     let start = space .before .before .before in
     then (space .put-byte .ensures) (simp (toZ-ofZ (start .fits .v)) at (number .put-integer .ensures))
 

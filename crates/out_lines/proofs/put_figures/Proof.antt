@@ -29,7 +29,8 @@ loop-holds c = (omega arith, puts-none)
 loop-again : tie.Need-loop-again Inv-loop μ-loop
 loop-again c =
     let called = c .before .before in
-    let turn = called .before .before .before .before in
+    let tested = called .before .before .before in
+    let turn = tested .before in
     let figures = turn .before .before .args .figures .now in
     let i = turn .loop .i in
     let fits : SFits w64 (getD figures i (pos 0)) = record { sfits = called .before .put-figure-arg2 .given } in (

@@ -10,8 +10,10 @@ returns : tie.Need-returns
 unfolding lineOf text
 returns c =
     let newline = c .before .before in
-    let figures = newline .before .before .before .before in
-    let word = figures .before .before .before .before in
+    let at-filled = newline .before .before in
+    let figures = at-filled .before .before in
+    let at-named = figures .before .before in
+    let word = at-named .before .before in
     then (then (word .put-bytes .ensures) (figures .put-figures .ensures)) (newline .put-byte .ensures)
 
 pub put-line-spec : {M : Type 1} → statement M

@@ -13,11 +13,16 @@ returns : tie.Need-returns
 unfolding numbered text
 returns c =
     let newline = c .before .before in
-    let placed = newline .before .before .before .before in
-    let numbered = placed .before .before .before .before in
-    let named = numbered .before .before .before .before .before in
-    let place = named .before .before .before .before .args .refusal .place in
-    let number = numbered .before .number-of in
+    let at-placed = newline .before .before in
+    let placed = at-placed .before .before in
+    let at-numbered = placed .before .before in
+    let numbered = at-numbered .before .before in
+    let at-number = numbered .before in
+    let at-named = at-number .before .before in
+    let named = at-named .before .before in
+    let at-cause = named .before .before .before in
+    let place = at-cause .before .args .refusal .place in
+    let number = at-number .number-of in
     let read : Numbered = record { number = number .result; place = place } in
     let is : refusalText read ≡ _ = ap (λ v. refusalText (record { number = v; place = place })) (number .ensures) in
     let word = named .put-bytes .ensures in

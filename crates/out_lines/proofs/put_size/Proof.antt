@@ -10,7 +10,8 @@ returns : tie.Need-returns
 unfolding text
 returns c =
     let number = c .before .before in
-    let space = number .before .before .before .before in
+    let at-parted = number .before .before in
+    let space = at-parted .before .before in
     let start = space .before .before .before in
     let put = then (space .put-byte .ensures) (number .put-number .ensures) in
     (put, length-decimal-pos (start .args .v) (start .fits .v .fits))

@@ -21,14 +21,16 @@ unfolding textFrom outcome
 returns c =
     let called = c .before .before in
     let told = called .before .before in
-    text-of (told .before .before .before .before) (told .enum-told .given .1) (called .put-record .ensures)
+    let matched = told .before in
+    text-of (matched .before .before .before) (told .enum-told .given .1) (called .put-record .ensures)
 
 returns-2 : tie.Need-returns-2
 unfolding textFrom outcome
 returns-2 c =
     let called = c .before .before in
     let told = called .before .before .before in
-    text-of (told .before .before .before .before) (told .answer .given .1) (called .put-refusal .ensures)
+    let matched = told .before in
+    text-of (matched .before .before .before) (told .answer .given .1) (called .put-refusal .ensures)
 
 pub put-answer-spec : {M : Type 1} → statement M
 put-answer-spec =

@@ -15,8 +15,11 @@ use Rattle.out_listing.proofs.write_listing.Tie as tie
 
 -- the text is put, and the room takes it
 module _ (c : tie.After-put-answer) where
+  abbrev at-space : tie.After-space
+  at-space = c .before
+
   abbrev start : tie.Start
-  start = c .before .before .before .before
+  start = at-space .before .before .before
 
   abbrev answered : List ℕ
   answered = textFrom (outcome (start .args .answer)) (start .args .«record» .now)
@@ -29,9 +32,17 @@ returns c =
     let called = c .before .before in
     (not-listed (rw (sym (put called .1)) (omega arith)), called .put-answer .ensures .short)
 
+-- the lent bytes can take the text, and the copy is next
+module _ (c : tie.After-space3) where
+  abbrev room : tie.Else1
+  room = c .before .before
+
+  abbrev answer : tie.After-put-answer
+  answer = room .before .before
+
 part-put-bytes-end : tie.Need-part-put-bytes-end
 part-put-bytes-end c =
-    let called = c .before .before .before .before in
+    let called = answer c in
     let ends = put called .1 in
     let short = called .put-answer .ensures .short in
     search needs
@@ -39,7 +50,7 @@ part-put-bytes-end c =
 returns-2 : tie.Need-returns-2
 returns-2 c =
     let copied = c .before .before in
-    let called = copied .before .before .before .before .before .before in (
+    let called = answer (copied .before .before) in (
       listed (puts-as (put called .0) (simp sub-zero at (copied .put-bytes .ensures)))
           (rw (sym (put called .1)) (omega arith)),
       called .put-answer .ensures .short,

@@ -47,38 +47,47 @@ module _ (c : tie.Then1) where
   less-bits : toZ w64 (ofZ w64 (negsuc 0 -ℤ toZ w64 (ofZ w64 v))) ≡ pos (mag v)
   less-bits = rw less (toZ-pos w64 (fits .sfits))
 
+-- the sign is put, and the digits are next
+module _ (c : tie.After-put-number-arg) where
+  abbrev at-signed : tie.After-slice-known2
+  at-signed = c .before
+
+  abbrev sign : tie.After-put-byte
+  sign = at-signed .before .before
+
+  abbrev below : tie.Then1
+  below = sign .before .before
+
 sub-put-number : tie.Need-sub-put-number
-sub-put-number c = let n = c .before .before .before .before .before in rw (less n) (record { sfits = fits n .sfits })
+sub-put-number c = rw (less (below c)) (record { sfits = fits (below c) .sfits })
 
 cast-put-number : tie.Need-cast-put-number
-cast-put-number c =
-    let n = c .before .before .before .before .before in
-    simp (less-bits n) (tt, record { fits = omega (arith, fits n .sfits) })
+cast-put-number c = simp (less-bits (below c)) (tt, record { fits = omega (arith, fits (below c) .sfits) })
 
 add-put-number : tie.Need-add-put-number
-add-put-number c =
-    let n = c .before .before .before .before .before in
-    simp (less-bits n) (record { fits = omega (arith, fits n .sfits) })
+add-put-number c = simp (less-bits (below c)) (record { fits = omega (arith, fits (below c) .sfits) })
 
 returns : tie.Need-returns
 returns c =
     let number = c .before .before in
-    let sign = number .before .before .before .before in
-    let n = sign .before .before in
+    let n = below (number .before) in
     let digits-put = simp (less-bits n) at (number .put-number .ensures) in
-    rw (below-decimal (v n) (negative n)) at (then (sign .put-byte .ensures) digits-put)
+    rw (below-decimal (v n) (negative n)) at (then (sign (number .before) .put-byte .ensures) digits-put)
 
 -- ---- from 0 on
 module _ (c : tie.Else1) where
-  is-natural : c .before .before .args .v ≡ pos (mag (c .before .before .args .v))
-  is-natural = natural (c .before .before .args .v) (simp (toZ-ofZ (c .before .before .fits .v)) at (c .if1 .left))
+  abbrev start : tie.Start
+  start = c .before .before
 
-  own-bits : toZ w64 (ofZ w64 (c .before .before .args .v)) ≡ pos (mag (c .before .before .args .v))
-  own-bits = toZ-ofZ (c .before .before .fits .v) ∙ is-natural
+  is-natural : start .args .v ≡ pos (mag (start .args .v))
+  is-natural = natural (start .args .v) (simp (toZ-ofZ (start .fits .v)) at (c .if1 .left))
+
+  own-bits : toZ w64 (ofZ w64 (start .args .v)) ≡ pos (mag (start .args .v))
+  own-bits = toZ-ofZ (start .fits .v) ∙ is-natural
 
 cast-put-number-2 : tie.Need-cast-put-number-2
 cast-put-number-2 c =
-    simp (own-bits (c .before)) (tt, record { fits = omega (arith, c .before .before .before .fits .v .sfits) })
+    simp (own-bits (c .before)) (tt, record { fits = omega (arith, start (c .before) .fits .v .sfits) })
 
 returns-2 : tie.Need-returns-2
 returns-2 c =

@@ -31,9 +31,11 @@ loop-again : tie.Need-loop-again Inv-loop μ-loop
 unfolding cut
 loop-again c =
     let called = c .before .before in
-    let turn = called .before .before .before .before in
+    let at-power = called .before in
+    let tested = at-power .before .before in
+    let turn = tested .before in
     let e : turn .loop .left ≡ suc (turn .loop .left - 1) = omega arith in
-    let digit-put = rw (called .before .power .ensures) at (called .put-byte .ensures) in
+    let digit-put = rw (at-power .power .ensures) at (called .put-byte .ensures) in
     (omega arith, left-next (rw e at (turn .loop .inv .1)) digit-put)
 
 returns : tie.Need-returns Inv-loop μ-loop

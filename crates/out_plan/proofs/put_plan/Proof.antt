@@ -12,15 +12,20 @@ returns : tie.Need-returns
 unfolding recordText text
 returns c =
     let gap = c .before .before in
-    let low = gap .before .before .before .before .before in
-    let limits = low .before .before .before .before .before in
-    let materials = limits .before .before .before .before in
-    let steps = materials .before .before .before .before in
-    let placed = steps .before .before in
-    let start = placed .before .before .before .before in
+    let at-bounded = gap .before .before .before in
+    let low = at-bounded .before .before in
+    let at-limits = low .before .before .before in
+    let limits = at-limits .before .before in
+    let at-materials = limits .before .before in
+    let materials = at-materials .before .before in
+    let at-begun = materials .before .before in
+    let steps = at-begun .before .before in
+    let at-totals = steps .before .before in
+    let at-multipliers = at-totals .before in
+    let start = at-multipliers .before .before .before in
     let r = start .args .«record» .now in
     let limits-put =
-    rw (placed .before .multipliers-at .ensures, placed .totals-at .ensures) at (limits .put-limits .ensures) in
+    rw (at-multipliers .multipliers-at .ensures, at-totals .totals-at .ensures) at (limits .put-limits .ensures) in
     let put = then (then (steps .put-steps .ensures) (materials .put-materials .ensures)) limits-put in
     puts-as
     ((λ k. recordText r (start .pre .materials k) (start .pre .limits k)) ∙ plan-text r)

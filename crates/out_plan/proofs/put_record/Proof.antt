@@ -14,38 +14,54 @@ returns c =
 
 -- the sizes are read, from the head of a record that has one
 module _ (c : tie.After-size-at2) where
+  abbrev at-n : tie.After-size-at
+  at-n = c .before
+
+  abbrev headed : tie.Else1
+  headed = at-n .before
+
   abbrev start : tie.Start
-  start = c .before .before .before .before .before
+  start = headed .before .before .before
 
 returns-2 : tie.Need-returns-2
 returns-2 c =
-    let r = start (c .before) .args .«record» .now in
-    no-text r (many-materials r (rw (sym (c .before .before .size-at .ensures .is)) (omega arith)))
+    let at-m = c .before in
+    let r = start at-m .args .«record» .now in
+    no-text r (many-materials r (rw (sym (at-n at-m .size-at .ensures .is)) (omega arith)))
 
 returns-3 : tie.Need-returns-3
 returns-3 c =
-    let r = start (c .before .before) .args .«record» .now in
-    no-text r (many-limits r (rw (sym (c .before .before .size-at2 .ensures .is)) (omega arith)))
+    let at-m = c .before .before in
+    let r = start at-m .args .«record» .now in
+    no-text r (many-limits r (rw (sym (at-m .size-at2 .ensures .is)) (omega arith)))
+
+-- the sizes are at most those of a sheet
+abbrev sizes : tie.After-record-length → tie.After-size-at2
+sizes c = c .before .before .before
 
 returns-4 : tie.Need-returns-4
 returns-4 c =
-    let sizes = c .before .before .before .before in
-    let r = start sizes .args .«record» .now in
-    let length-is = c .before .record-length .ensures in
+    let at-length = c .before in
+    let at-m = sizes at-length in
+    let r = start at-m .args .«record» .now in
+    let length-is = at-length .record-length .ensures in
     no-text r
-    (cut-short r (rw (sym (sizes .before .size-at .ensures .is), sym (sizes .size-at2 .ensures .is)) (omega arith)))
+    (cut-short r (rw (sym (at-n at-m .size-at .ensures .is), sym (at-m .size-at2 .ensures .is)) (omega arith)))
 
 -- the record is whole
 module _ (c : tie.After-put-plan-arg) where
-  abbrev sizes : tie.After-size-at2
-  sizes = c .before .before .before .before .before
+  abbrev at-length : tie.After-record-length
+  at-length = c .before .before
 
-  sized : WholeRecord (start sizes .args .«record» .now) (sizes .before .size-at .result) (sizes .size-at2 .result)
+  abbrev at-m : tie.After-size-at2
+  at-m = sizes at-length
+
+  sized : WholeRecord (start at-m .args .«record» .now) (at-n at-m .size-at .result) (at-m .size-at2 .result)
   sized =
-      let length-is = c .before .before .record-length .ensures in
+      let length-is = at-length .record-length .ensures in
       record {
-        materials = sizes .before .size-at .ensures .is;
-        limits = sizes .size-at2 .ensures .is;
+        materials = at-n at-m .size-at .ensures .is;
+        limits = at-m .size-at2 .ensures .is;
         sizes = record { materials = omega arith; limits = omega arith };
         whole = omega arith;
       }
@@ -53,8 +69,8 @@ module _ (c : tie.After-put-plan-arg) where
 returns-5 : tie.Need-returns-5
 returns-5 c =
     let called = c .before .before in
-    let read = sizes (called .before) in
-    record-text (start read .args .«record» .now) (read .before .before .before .shared-slice-known .given)
+    let read = at-m (called .before) in
+    record-text (start read .args .«record» .now) (headed read .before .shared-slice-known .given)
     (sized (called .before)) (called .put-plan .ensures)
 
 pub put-record-spec : {M : Type 1} → statement M

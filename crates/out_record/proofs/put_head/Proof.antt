@@ -18,10 +18,14 @@ returns : tie.Need-returns
 unfolding headBytes
 returns c =
     let gap-at = c .before .before in
-    let low-at = gap-at .before .before .before .before .before in
-    let k-at = low-at .before .before .before .before .before in
-    let m-at = k-at .before .before .before .before in
-    let n-at = m-at .before .before .before .before in
+    let after-low = gap-at .before .before .before in
+    let low-at = after-low .before .before in
+    let after-k = low-at .before .before .before in
+    let k-at = after-k .before .before in
+    let after-m = k-at .before .before in
+    let m-at = after-m .before .before in
+    let after-n = m-at .before .before in
+    let n-at = after-n .before .before in
     let start = n-at .before .before .before in
     let d₀ = start .args .«record» .now in
     let head = start .args .head in

@@ -40,17 +40,23 @@ module _ (head : Head) (sums multipliers totals : List ℤ) where
 
 -- ---- the places that were written, from the last to the first
 module _ (c : tie.After-put-64) where
-  abbrev placed : tie.After-totals-at
-  placed = c .before .before .before
+  abbrev at-totals : tie.After-totals-at
+  at-totals = c .before .before .before
 
   abbrev multiplied : tie.After-put-322
-  multiplied = placed .before .before .before
+  multiplied = at-totals .before .before .before
+
+  abbrev at-multipliers : tie.After-multipliers-at
+  at-multipliers = multiplied .before .before .before
 
   abbrev summed : tie.After-put-32
-  summed = multiplied .before .before .before .before .before .before
+  summed = at-multipliers .before .before .before
+
+  abbrev after-head : tie.After-slice-known2
+  after-head = summed .before .before .before
 
   abbrev headed : tie.After-put-head
-  headed = summed .before .before .before .before .before
+  headed = after-head .before .before
 
   abbrev start : tie.Start
   start = headed .before .before .before
@@ -70,12 +76,12 @@ returns c =
     let with-head : Filled d₀ (headBytes head) sumsAt (headed wrote .put-head .last .0) =
     record { is = headed wrote .put-head .ensures; long = length-head head } in
     let with-sums = extend (firstFields 4 n sums) with-head (length-first 4 n sums) (summed wrote .put-32 .ensures) in
-    let multipliers-place = multiplied wrote .before .before .before .multipliers-at .ensures in
+    let multipliers-place = at-multipliers wrote .multipliers-at .ensures in
     let after-sums = filled-to multipliers-place with-sums in
     let with-multipliers =
     extend (firstFields 4 m multipliers) after-sums (length-first 4 m multipliers)
     (multiplied wrote .put-322 .ensures) in
-    let totals-place = placed wrote .totals-at .ensures ∙ ap (λ (a : ℕ). a + 4 * m) (sym multipliers-place) in
+    let totals-place = at-totals wrote .totals-at .ensures ∙ ap (λ (a : ℕ). a + 4 * m) (sym multipliers-place) in
     let after-multipliers = filled-to totals-place with-multipliers in
     let with-totals =
     extend (firstFields 8 m totals) after-multipliers (length-first 8 m totals) (wrote .put-64 .ensures) in

@@ -18,7 +18,8 @@ returns : tie.Need-returns
 unfolding limitLine lineOf line text
 returns c =
     let called = c .before .before in
-    let total-at = called .before .before .before .before in
+    let at-figures = called .before in
+    let total-at = at-figures .before .before .before in
     let multiplier-at = total-at .before in
     let i = multiplier-at .before .before .before .args .i in
     let number : toZ w64 i ≡ pos i = toZ-pos w64 (omega arith) in

@@ -18,7 +18,8 @@ returns : tie.Need-returns
 unfolding materialLine lineOf line text
 returns c =
     let called = c .before .before in
-    let sum-at = called .before .before .before .before in
+    let at-figures = called .before in
+    let sum-at = at-figures .before .before .before in
     let j = sum-at .before .before .before .args .j in
     let number : toZ w64 j ≡ pos j = toZ-pos w64 (omega arith) in
     let sum : SFits w64 (sum-at .signed-at .result) = record { sfits = sum-at .signed-at .ok } in

@@ -19,17 +19,20 @@ abbrev μ-loop : tie.MeasureT-loop
 
 loop-again : tie.Need-loop-again Inv-loop μ-loop
 loop-again c =
-    let turn = c .before .before .before .before .before .before in
+    let called = c .before .before in
+    let tested = called .before .before .before in
+    let turn = tested .before in
     let bytes = turn .before .before .before .args .bytes .now in
     let more : turn .loop .i < length bytes = omega arith in
     let left = rw (drop-cons bytes (turn .loop .i) 0) at (turn .loop .inv .1) in
-    (omega arith, rw add-one (left-next left (c .before .before .put-byte .ensures)))
+    (omega arith, rw add-one (left-next left (called .put-byte .ensures)))
 
 returns : tie.Need-returns Inv-loop μ-loop
 returns c =
-    let bytes = c .before .before .before .before .args .bytes .now in
-    let all : length bytes ≤ c .before .loop .i = omega arith in
-    left-none (rw (drop-of-length-le bytes all) at (c .before .loop .inv .1))
+    let turn = c .before in
+    let bytes = turn .before .before .before .args .bytes .now in
+    let all : length bytes ≤ turn .loop .i = omega arith in
+    left-none (rw (drop-of-length-le bytes all) at (turn .loop .inv .1))
 
 pub put-bytes-spec : {M : Type 1} → statement M
 put-bytes-spec =

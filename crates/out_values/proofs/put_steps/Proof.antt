@@ -18,7 +18,8 @@ returns : tie.Need-returns
 unfolding stepsLine lineOf line text
 returns c =
     let called = c .before .before in
-    let steps = called .before .before .before .before .size-at in
+    let at-figures = called .before in
+    let steps = at-figures .before .before .before .size-at in
     let number : toZ w64 (steps .result) ≡ pos (steps .result) = toZ-pos w64 (omega (arith, steps .ensures .small)) in
     puts-as (λ k. lineOf (text "steps") ((number ∙ ap pos (steps .ensures .is)) k ∷ [])) (called .put-line .ensures)
 

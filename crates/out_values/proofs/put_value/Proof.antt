@@ -14,7 +14,8 @@ returns : tie.Need-returns
 returns c =
     let called = c .before .before in
     let figure-at = called .before .before .before in
-    let start = figure-at .before .before .before .before in
+    let entered = figure-at .before in
+    let start = entered .before .before .before in
     let figure = figure-at .signed-at in
     let fits : SFits w64 (figure .result) = record { sfits = figure .ok } in
     puts-as (λ k. lineOf (start .args .word .now) ((toZ-ofZ fits ∙ figure .ensures) k ∷ [])) (called .put-line .ensures)
