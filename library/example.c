@@ -5,7 +5,7 @@
  *
  * To compile, after `rt staticlib batchplan_lib`:
  *
- *     gcc -std=c99 -Wall -Ilibrary/include library/example.c -Ltarget/staticlib -lbatchplan_lib -o example
+ *     gcc -Ilibrary/include library/example.c -Ltarget/staticlib -lbatchplan_lib -o target/example
  */
 #include <inttypes.h>
 #include <stdio.h>

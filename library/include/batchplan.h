@@ -76,7 +76,7 @@ enum {
     BATCHPLAN_VALUE = 6,       /* an entry's value is 0 or outside its range; place: the entry */
     BATCHPLAN_BOUNDS = 7,      /* a material's least amount is above its most amount; place: the material */
     BATCHPLAN_BUFFER = 8,      /* the record buffer is too short; place: the length that the record has */
-    BATCHPLAN_INFEASIBLE = 9,  /* no recipe keeps all bounds and limits; place: the step */
+    BATCHPLAN_INFEASIBLE = 9,  /* no recipe keeps all bounds and limits ("no blend"); place: the step */
     BATCHPLAN_DIVERGED = 10    /* a multiplier grew above 1,073,741,824; place: the step */
 };
 
@@ -84,7 +84,8 @@ enum {
  * Plans a sheet (T10.3).
  *
  * For a plan: the answer is 0, *place is 0, *low and *gap are the plan's figures, and the record stands at the start of
- * the buffer. The bytes of the buffer after the record are as they were.
+ * the buffer. The bytes of the buffer after the record are as they were. No feasible recipe costs less than low / D,
+ * and none is cheaper than the average by more than gap / (k * D). D stands in the sheet, and not in the record.
  *
  * For a refusal: the answer is its number, 1 to 10, *place is its place, *low and *gap are 0, and every byte of the
  * buffer is as it was.
@@ -96,7 +97,7 @@ enum {
  *   at 6             low                8 bytes, signed
  *   at 14            gap                8 bytes, signed
  *   at 22            n sums             of 4 bytes each, signed; the averaged amount of a material is its sum / k
- *   at 22 + 4n       m multipliers      of 4 bytes each, signed
+ *   at 22 + 4n       m multipliers      of 4 bytes each, signed, D times those of the method
  *   at 22 + 4n + 4m  m residual totals  of 8 bytes each, signed; the average oversteps a limit by its total / k
  */
 size_t batchplan_plan(const uint8_t *sheet, size_t sheet_bytes, uint8_t *record, size_t record_bytes,

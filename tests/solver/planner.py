@@ -63,7 +63,7 @@ class Rules(NamedTuple):
 
 RULES = Rules()
 
-# The ranges of the figures (T3.2). The row decides what a figure means.
+# The ranges of the figures (T3.2). What a figure is follows from its row.
 COST, AMOUNT, A, B = (-10_000, 10_000), (1, 1_000), (-1_000, 1_000), (-32_000_000, 32_000_000)
 
 

@@ -31,7 +31,7 @@ allKeys = keyOf (3 + largest .limits) 0
 unfoldable pub keysOf : Table → List ℕ
 keysOf T = picked allKeys (λ key. not (isZero (T key)))
 
--- T3.5, the bytes of sizes and a table.
+-- T3.5, the bytes of sizes and a table that is 0 where the shape has no figure.
 unfoldable pub written : Sizes → Table → List ℕ
 written z T =
     let keys = keysOf T in

@@ -54,15 +54,12 @@ examples =
     refusal-row (encode 1 0 1 1 1 (0 ∶ pos 0 ∷ [])) 42 Value 0 "refused 6 0\n" ∷
     -- C1, 41 bytes
     refusal-row (C1 .sheet) 41 Buffer 42 "refused 8 42\n" ∷
-    -- a bad value before a bad key: 5, not 6
-    refusal-row (encode 1 0 1 1 1 (0 ∶ pos 0 ∷ 1 ∶ pos 1 ∷ [])) 42 Key 1 "refused 5 1\n" ∷
     []
 
 pub examples-hold : AllHold examples
 unfolding Holds AllHold
 examples-hold =
     (refl, refl, refl, refl)
-    and (refl, refl, refl, refl)
     and (refl, refl, refl, refl)
     and (refl, refl, refl, refl)
     and (refl, refl, refl, refl)
@@ -80,6 +77,8 @@ order =
     42 Dimensions 0 "refused 2 0\n" ∷
     -- a byte too many and k = 0: 3, not 4
     refusal-row (encode 1 0 1 1 0 [] ++ (0 ∷ [])) 42 Length 0 "refused 3 0\n" ∷
+    -- a bad value, and after it a bad key: 5, not 6
+    refusal-row (encode 1 0 1 1 1 (0 ∶ pos 0 ∷ 1 ∶ pos 1 ∷ [])) 42 Key 1 "refused 5 1\n" ∷
     -- a bad value and a least amount above the most: 6, not 7
     refusal-row (encode 1 0 1 1 1 (64 ∶ pos 4 ∷ 128 ∶ neg 1 ∷ [])) 42 Value 1 "refused 6 1\n" ∷
     -- a least amount above the most and a short buffer: 7, not 8
@@ -94,6 +93,7 @@ pub order-holds : AllHold order
 unfolding Holds AllHold
 order-holds =
     (refl, refl, refl, refl)
+    and (refl, refl, refl, refl)
     and (refl, refl, refl, refl)
     and (refl, refl, refl, refl)
     and (refl, refl, refl, refl)

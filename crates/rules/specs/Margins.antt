@@ -14,7 +14,7 @@ use Rattle.rules.specs.Answers.{Outcome, plan, refused}
 abbrev pub square : ℤ → ℤ
 square z = z *ℤ z
 
--- The margins of the plan after k steps, with the printed low and gap.
+-- T9.8, the margins of one plan, that after k steps, with the printed low and gap.
 pub record PlanMargins (P : Problem) (k : ℕ) (low gap : ℤ) : Type 0 where
   -- T9.3, over every feasible point y/d: d·low ≤ D·cost of y, so that none costs less than low/D
   pub lower : (d : ℤ) (y : ℕ → ℤ) → Feasible P d y → (d *ℤ low) ≤ℤ (pos (P .scale) *ℤ costOf P y)

@@ -1,4 +1,4 @@
--- TASK.md, T11: C1 to C10, one table, and one proof that it follows from the definitions.
+-- TASK.md, T11: C1 to C10 in one table, with one proof that the definitions give it.
 use mathlib.Core.Path.{_≡_, refl}
 use Prim.Native.Nat.{ℕ}
 use mathlib.Core.List.{List, [], _∷_, _++_, map}

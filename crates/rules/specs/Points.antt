@@ -92,7 +92,7 @@ pub divisor-negative : Feasible (fromSheet (C7 .sheet)) (neg 1) (one (pos 0)) �
 unfolding Holds
 divisor-negative f = f .divisor .lt
 
--- C1: −1 of material 1
+-- C1: −1/2 of material 1
 pub amount-negative : Feasible P₁ (pos 2) (two (pos 20) (neg 1)) → ⊥
 unfolding Holds
 amount-negative f = f .above 1 (lit< tt) .le

@@ -70,7 +70,7 @@ noFigureAt shape row column =
 unfoldable pub valueBad : Shape → ℕ → ℤ → Bool
 valueBad shape key value = isZero value || not (inRange (rangeOf (kindAt shape (rowOf key) (columnOf key))) value)
 
--- is the least amount of material j above its most?
+-- T7.4, is the least amount of material j above its most?
 unfoldable pub crossed : Table → ℕ → Bool
 crossed T j = ltZ (T (keyOf 2 j)) (T (keyOf 1 j))
 
@@ -96,15 +96,15 @@ module _ (S : Sheet) where
       otherwise refuse 3 0 (not (eqb bytes (sheetLength (S .entries))))
       otherwise refuse 4 0 (not (parametersInRange (S .sizes)))
 
-  -- refusal 5, at the first such entry
+  -- T7.4, refusal 5, at the first such entry
   unfoldable pub keyRefusal : Option Numbered
   keyRefusal = firstBelow (S .entries) (λ i. refuse 5 i (badKey i))
 
-  -- refusal 6, at the first such entry
+  -- T7.4, refusal 6, at the first such entry
   unfoldable pub valueRefusal : Option Numbered
   valueRefusal = firstBelow (S .entries) (λ i. refuse 6 i (badValue i))
 
-  -- refusal 7, at the first such material
+  -- T7.4, refusal 7, at the first such material
   unfoldable pub boundRefusal : Option Numbered
   boundRefusal = firstBelow (S .sizes .shape .materials) (λ j. refuse 7 j (crossed (tableOf S) j))
 

@@ -1,4 +1,4 @@
--- How a table of sheets is written down and held against the definitions. Only Marked, Examples and Points use it.
+-- How a table of sheets is written down and held against the definitions. Only worked sheets and points use it.
 use Prim.Native.Nat.{ℕ, _+_, _-_, _*_}
 use Prim.Native.String.{String}
 use mathlib.Core.Path.{_≡_}

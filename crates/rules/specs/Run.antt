@@ -40,7 +40,7 @@ module _ (P : Problem) where
     lowerBound = dualValue P startingMultiplier (amount P startingMultiplier);
   }
 
-  -- the state after t steps
+  -- T5.7, the state after t steps
   unfoldable pub stateAfter : ℕ → State
   stateAfter zero = start
   stateAfter (suc t) = next P (stateAfter t)

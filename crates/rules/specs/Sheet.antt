@@ -62,6 +62,7 @@ sheetOf s =
 abbrev pub keyOf : ℕ → ℕ → ℕ
 keyOf row column = row * 64 + column
 
+-- T3.1, the row and the column of a key
 abbrev pub rowOf : ℕ → ℕ
 rowOf key = key / 64
 

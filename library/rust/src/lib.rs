@@ -7,7 +7,7 @@
 //!
 //! The work is done by a library in Rattle that is proved to answer, for every sheet and every buffer, what these rules
 //! give. This crate declares its functions and makes them safe to call: every function here takes any bytes, and none
-//! panics. The library is for x86-64 Linux.
+//! panics, where the archive is of this version. The library is for x86-64 Linux.
 //!
 //! ```
 //! // one material of cost 5, from 4 to 4; a step of 1/1, and one step
@@ -92,7 +92,7 @@ pub enum Cause {
     Bounds = 7,
     /// The record buffer is too short. The place is the length that the record has.
     Buffer = 8,
-    /// No recipe keeps all bounds and limits. The place is the step.
+    /// No recipe keeps all bounds and limits ("no blend"). The place is the step.
     Infeasible = 9,
     /// A multiplier grew above 1,073,741,824. The place is the step.
     Diverged = 10,
@@ -197,7 +197,8 @@ pub fn plan(sheet: &[u8], record: &mut [u8]) -> Answer {
     }
 }
 
-/// The listing of a sheet, as the program batchplan prints it: the lines of the plan, or that of the refusal.
+/// The listing of a sheet, as the program batchplan prints it: the lines of the plan, or the one of a refusal, which is
+/// `refused` with number and place.
 pub fn listing(sheet: &[u8]) -> String {
     let mut text = vec![0; LISTING_BYTES];
     // SAFETY: each pointer and length is that of a Rust slice; `text` can be written, and is this function's own, so
