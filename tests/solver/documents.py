@@ -63,9 +63,17 @@ def figures_in(text):
     return [(place[0], place.end()) for place in re.finditer(r"(?<![\w.])-?\d+(?:\.\d+)?", text)], text
 
 
+# An equation between numbers: what stands on its left, and on its right.
+EQUATION = re.compile(r"(?<![\w·(])((?:max\()?[\d(-][\d(),/·+ -]*(?<=[\d)])) = (-?[\d/]*\d)")
+
+
 def faults_of_figures(where, text, due):
-    """The first number of a text that is not the one due in its place. The words are free."""
+    """The equations of a text that do not hold, and its first number that is not the one due in its place. The words
+    are free."""
     figures, text = figures_in(text)
+    for left, right in EQUATION.findall(text):
+        if eval(left.replace("·", "*")) != eval(right):
+            yield f"{where}: {left} is not {right}"
     for (stated, end), figure in zip([*figures, ("none", len(text))], [*map(str, due), "none"]):
         if stated != figure:
             yield f"{where}: '..{text[max(0, end - 60) : end]}' has {stated} last; due is {figure}"
