@@ -42,7 +42,7 @@ fn put_head(record: &mut [u8], head: Head)
     put_signed(record, GAP_AT, 8, head.gap);
 }
 
-// The whole record. The part after the sums is lent on, and then the part after the multipliers.
+// The record: its head, and then each array into what the buffer has after the one before.
 pub fn write_record(
     record: &mut [u8],
     head: Head,
