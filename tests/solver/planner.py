@@ -212,7 +212,7 @@ def listing_of(answer, figures):
 
 
 def listing(sheet, rules=RULES):
-    """What batchplan prints for a sheet. Its buffer takes every record (T10.2)."""
+    """What batchplan prints for a sheet: its buffer is long enough for any record (T10.2)."""
     answer, figures, _ = plan(sheet, bytes(LONGEST_RECORD), rules)
     return listing_of(answer, figures)
 

@@ -210,7 +210,7 @@ pub sheet-length : (e : ℕ) → sheetLength e ≡ 12 + 6 * e
 unfolding headerLength
 sheet-length e = omega arith
 
--- T2.6, the longest sheet has 3,756 bytes
+-- T2.6, the length of the longest sheet
 pub longest : sheetLength (mostEntries largest) ≡ 3756
 unfolding headerLength
 longest = refl
