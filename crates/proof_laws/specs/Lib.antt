@@ -5,6 +5,7 @@
 --   Lengths      the lists of a state and of a look have n and m elements
 --   Below        what holds at every place below n
 --   NotRefused   what follows where nothing is refused
+--   Given        what holds of every refusal that can be given
 --   FirstPlace   the chain of refusals and the first place, as code meets them
 --   Agreeing     only the figures of the n materials and the m limits count
 pub mod Read
@@ -13,5 +14,6 @@ pub mod Sizes
 pub mod Lengths
 pub mod Below
 pub mod NotRefused
+pub mod Given
 pub mod FirstPlace
 pub mod Agreeing

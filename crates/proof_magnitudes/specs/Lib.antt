@@ -8,6 +8,7 @@
 --   Magnitudes      the figures of a step
 --   RunMagnitudes   the figures of a run: `magnitudes`, by a sheet's bytes, and `run-magnitudes`, by its figures
 --   PlanFits        the figures of a plan fit the bytes that a record has for them
+--   LongestRecord   in a buffer that takes the longest record, no sheet is refused with 8
 -- Of a step, M are the multipliers that enter it (times D), and x its amounts. A point y/d has the
 -- whole amounts y over the divisor d.
 pub mod Accepted
@@ -18,3 +19,4 @@ pub mod Opening
 pub mod Magnitudes
 pub mod RunMagnitudes
 pub mod PlanFits
+pub mod LongestRecord

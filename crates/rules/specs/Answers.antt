@@ -29,7 +29,7 @@ unfoldable pub refusalAt : Problem → ℕ → Option Numbered
 refusalAt P t =
     refuse 9 t (infeasible P (lookAfter P t)) otherwise refuse 10 t (diverged P (stateAfter P (suc t) .multipliers))
 
--- the refusal of the first of k steps that is refused
+-- T5.7, the refusal of the first of k steps that is refused
 unfoldable pub stepRefusal : Problem → ℕ → Option Numbered
 stepRefusal P k = firstBelow k (refusalAt P)
 

@@ -20,9 +20,14 @@
 --   Marked     C1 to C10
 --   Examples   the examples of the refusals, their order, the ends of the ranges, and steps worked by hand
 --   Points     feasible points and points just outside; what T9.3 to T9.7 say in numbers; claims refuted
--- Signs: `pos n` and `negsuc n` are the integers n and −(n + 1). `ltb leb eqb` test naturals for < ≤ =, and `ltZ leZ`
--- integers for < ≤.
--- `cond b x y` is x where the test b holds, else y. `getD s i d` is element i of the list s, or d past its end.
+-- Signs: `pos n` and `negsuc n` are the integers n and −(n + 1); `+ℤ -ℤ *ℤ` reckon with integers, and `≤ℤ <ℤ` compare
+-- them. `ltb leb eqb` test naturals for < ≤ =, and `ltZ leZ` integers for < ≤.
+-- `cond b x y` is x where the test b holds, else y. `[]` is the empty list, `x ∷ xs` the list that begins with x, `++`
+-- joins two, and `getD s i d` is element i of the list s, or d past its end. `none` and `some x` are nothing and x.
+-- `λ j. e` is the function that takes j to e, and `r .field` a field of the record r.
+-- `a ≡ b` says that two are equal, `A × B` that both A and B hold, `⊥` is what never holds, and `refl` proves an equality
+-- by computing both sides. `abbrev` and `unfoldable` before a definition, and `unfolding` before a proof, tell the
+-- checker what it may compute with; they say nothing of what a definition means.
 pub mod Notation
 pub mod Problem
 pub mod Bytes

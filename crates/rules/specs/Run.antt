@@ -40,7 +40,7 @@ module _ (P : Problem) where
     lowerBound = dualValue P startingMultiplier (amount P startingMultiplier);
   }
 
-  -- T5.7, the state after t steps
+  -- T5.7, the state after t steps, whether or not one of them is refused: `stepRefusal` says where the run ends
   unfoldable pub stateAfter : ℕ → State
   stateAfter zero = start
   stateAfter (suc t) = next P (stateAfter t)
