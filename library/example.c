@@ -38,11 +38,13 @@ static int read_sheet(const char *name, uint8_t *sheet, size_t room, size_t *len
     return good;
 }
 
-/* Prints low, gap, and each material's sum out of the record. */
-static void print_plan(int64_t low, int64_t gap, const uint8_t *record)
+/* Prints low, gap, and each material's sum out of the record. What low and gap mean depends on the sheet's scale D. */
+static void print_plan(int64_t low, int64_t gap, unsigned scale, const uint8_t *record)
 {
     unsigned materials = size_at(record), steps = size_at(record + 4), j;
-    printf("low %" PRId64 ", gap %" PRId64 ", %u steps\n", low, gap, steps);
+    printf("low %" PRId64 ": no feasible recipe costs less than %.3f\n", low, (double)low / scale);
+    printf("gap %" PRId64 ": the average costs at most %.3f more than any feasible recipe\n", gap,
+           (double)gap / steps / scale);
     for (j = 0; j < materials; j++) {
         uint32_t sum = sum_at(record + 22 + 4 * j);
         printf("material %u: sum %" PRIu32 ", averaged amount %.3f\n", j, sum, (double)sum / steps);
@@ -66,7 +68,7 @@ int main(int count, char **arguments)
     }
     number = batchplan_plan(sheet, length, record, sizeof record, &place, &low, &gap);
     if (number == BATCHPLAN_PLAN)
-        print_plan(low, gap, record);
+        print_plan(low, gap, size_at(sheet + 8), record);
     else
         printf("refusal %zu at place %zu\n", number, place);
     fwrite(text, 1, batchplan_listing(sheet, length, text, sizeof text), stdout);

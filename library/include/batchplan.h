@@ -33,8 +33,8 @@
  * There are no other conditions: the bytes of a sheet may be any bytes, and a buffer may have any length.
  *
  * The functions keep no state, allocate nothing, print nothing and read no clock, file or environment. So threads may
- * call them at the same time, each with its own objects. They want some 12 KB of stack. The largest sheet takes some
- * two milliseconds.
+ * call them at the same time, each with its own objects. They want less than 16 KB of stack. The largest sheet takes
+ * some two milliseconds.
  *
  * To link: the archive target/staticlib/libbatchplan_lib.a, made by `rt staticlib batchplan_lib`, for x86-64 Linux, and
  * the C library.

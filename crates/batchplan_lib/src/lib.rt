@@ -18,12 +18,12 @@ use rules::Answer;
 const VERSION: usize = 1;
 
 // An answer in plain numbers.
-pub struct Numbers {
+struct Numbers {
     // 0 for a plan
-    pub number: usize,
-    pub place: usize,
-    pub low: i64,
-    pub gap: i64,
+    number: usize,
+    place: usize,
+    low: i64,
+    gap: i64,
 }
 
 // The numbers of an answer. Those that it does not have are 0.

@@ -1,7 +1,7 @@
 // Little-endian numbers out of a slice of bytes.
 ghost use mathlib.Core.Path.{_≡_};
 ghost use Prim.Native.Nat.{_/_, _^_};
-ghost use Rattle.rules.specs.Bytes.{unsignedAt, signedOf, signedAt};
+ghost use Rattle.rules.specs.Bytes.{signedOf, signedAt};
 ghost use Rattle.bytes_read.specs.Inside.{Width, Inside, ReadUnsigned, InWidth};
 
 // Half of the numbers that 0 to 8 bytes have: those from it on are negative.

@@ -1,6 +1,5 @@
 -- T9.7: refusal 9 is given only where there is no feasible point. It comes from the test of T4.6 alone: every other
 -- test gives another number.
-use mathlib.Core.Path.{_≡_}
 use mathlib.Core.List.{List}
 use mathlib.Core.Option.{Option}
 use Prim.Native.Nat.{ℕ}
