@@ -223,8 +223,8 @@ pub struct Limit {
 pub struct Plan {
     /// k.
     pub steps: u16,
-    /// D times a lower bound on the cost of every feasible recipe. The scale D stands in the sheet, at bytes 8 and 9, and
-    /// not in the record.
+    /// D times a lower bound on the cost of every feasible recipe. The scale D stands in the sheet, at bytes 8 and 9,
+    /// and not in the record.
     pub low: i64,
     /// k times D times a bound on what the averaged recipe costs more than any feasible one. It may be negative.
     pub gap: i64,
