@@ -25,8 +25,8 @@
 -- `cond b x y` is x where the test b holds, else y. `[]` is the empty list, `x ∷ xs` the list that begins with x, `++`
 -- joins two, and `getD s i d` is element i of the list s, or d past its end. `none` and `some x` are nothing and x.
 -- `λ j. e` is the function that takes j to e, and `r .field` a field of the record r.
--- `a ≡ b` says that two are equal, `A × B` that both A and B hold, `⊥` is what never holds, and `refl` proves an equality
--- by computing both sides. `abbrev` and `unfoldable` before a definition, and `unfolding` before a proof, tell the
+-- `a ≡ b` says that two are equal, `A × B` that both A and B hold, `⊥` is what never holds, and `refl` proves that two
+-- are equal by computing them. `abbrev` and `unfoldable` before a definition, and `unfolding` before a proof, tell the
 -- checker what it may compute with; they say nothing of what a definition means.
 pub mod Notation
 pub mod Problem
