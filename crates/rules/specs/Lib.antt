@@ -24,7 +24,12 @@
 -- them. `ltb leb eqb` test naturals for < ≤ =, and `ltZ leZ` integers for < ≤.
 -- `cond b x y` is x where the test b holds, else y. `[]` is the empty list, `x ∷ xs` the list that begins with x, `++`
 -- joins two, and `getD s i d` is element i of the list s, or d past its end. `none` and `some x` are nothing and x.
--- `λ j. e` is the function that takes j to e, and `r .field` a field of the record r.
+-- `λ j. e` is the function that takes j to e, `r .field` a field of the record r, `zero` and `suc n` are 0 and n + 1.
+-- `length`, `map` and `drop n`, which leaves out the first n, are of lists. Of naturals `/` rounds down, `%` is what
+-- remains, and `-` ends at 0. `*` binds before `+` and `-`, and `*ℤ` before `+ℤ` and `-ℤ`.
+-- `(x : A) → B` says B of every x of A. `A → B` is a function from A to B, and of claims that B follows from A.
+-- A `record` has all its fields, and `data` is one of its forms. What stands under `module _ (P : Problem) where` takes
+-- P first: `residual x i` in it is `residual P x i` outside. `declared.X` is the type X of crates/rules/src.
 -- `a ≡ b` says that two are equal, `A × B` that both A and B hold, `⊥` is what never holds, and `refl` proves that two
 -- are equal by computing them. `abbrev` and `unfoldable` before a definition, and `unfolding` before a proof, tell the
 -- checker what it may compute with; they say nothing of what a definition means.
