@@ -5,7 +5,7 @@
 --   Lengths      the lists of a state and of a look have n and m elements
 --   Below        what holds at every place below n
 --   NotRefused   what follows where nothing is refused
---   Given        what holds of every refusal that can be given
+--   Given        what holds where a refusal with some number is given
 --   FirstPlace   the chain of refusals and the first place, as code meets them
 --   Agreeing     only the figures of the n materials and the m limits count
 pub mod Read

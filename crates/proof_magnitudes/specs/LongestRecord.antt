@@ -19,7 +19,7 @@ use Rattle.proof_magnitudes.specs.Accepted.{Accepted, accepted}
 -- T6.2: no record is longer than the longest
 pub record-short : {P : Problem} {k : ℕ} → Accepted P k → recordLength (P .materials) (P .limits) ≤ longestRecord
 unfolding recordLength
-record-short {P} a = let few = a .materials-few in let limits = a .limits-few in omega arith
+record-short {P} a = omega arith
 
 -- what is at most the room is not above it
 not-above : {wanted room : ℕ} → wanted ≤ room → T (ltb room wanted) → ⊥
