@@ -3,9 +3,9 @@
 // A sheet comes in a frame (see `gate_frames`) with nothing after it. A frame that is cut short ends the run.
 //
 // The line of a refused sheet is `refused`, the number and the place. That of an accepted sheet is `accepted`, the
-// sizes n, m, p, D and k, and every figure that is not 0: costs, least amounts, most amounts, a and b, as `c0=3`,
-// `l0=1`, `u0=10`, `a0,1=-2` and `b0=-12`, each after a space. The arrays are looked at in every place, so that a
-// figure in a wrong place shows.
+// sizes n, m, p, D and k, and every figure that is not 0: costs, least amounts, most amounts, a, b and starts, as
+// `c0=3`, `l0=1`, `u0=10`, `a0,1=-2`, `b0=-12` and `s0=7`, each after a space. The arrays are looked at in every place,
+// so that a figure in a wrong place shows.
 //
 // `tests/gate_read` makes the sheets, and works out with `tests/solver` what is to be printed.
 use gate_frames::Frame;
@@ -65,12 +65,12 @@ fn show_figures(line: &mut [u8], at: usize, letter: u8, figures: &[i16]) -> usiz
     end
 }
 
-// The right-hand sides b of the limits.
-fn show_rhs(line: &mut [u8], at: usize, rhs: &[i32]) -> usize {
+// The figures of an array of 32 bits: b or the starts.
+fn show_wide(line: &mut [u8], at: usize, letter: u8, figures: &[i32]) -> usize {
     let mut end = at;
     let mut i: usize = 0;
-    while i < rhs.len() {
-        end = show_figure(line, end, b'b', i, rhs[i] as i64);
+    while i < figures.len() {
+        end = show_figure(line, end, letter, i, figures[i] as i64);
         i += 1;
     }
     end
@@ -98,8 +98,9 @@ fn show_accepted(line: &mut [u8], f: Figures, coefficient: &[i16; 512]) -> usize
     let sized = show_sizes(line, f);
     let materials = show_materials(line, sized, f);
     let coefficients = show_figures(line, materials, b'a', coefficient);
-    let limits = show_rhs(line, coefficients, &f.rhs);
-    put_byte(line, limits, b'\n')
+    let limits = show_wide(line, coefficients, b'b', &f.rhs);
+    let starts = show_wide(line, limits, b's', &f.start);
+    put_byte(line, starts, b'\n')
 }
 
 // The line of a reading. That of a refused sheet is its listing's.

@@ -14,9 +14,10 @@ use Rattle.rules.specs.Refusals.{Numbered, refuse, _otherwise_, layoutRefusal}
 use Rattle.rules.specs.Answers.{planRefusal, planOf, refusal}
 use Rattle.proof_laws.specs.FirstPlace.{given, handed-on}
 use Rattle.proof_laws.specs.Agreeing.{Agree, same-refusal, same-plan}
-use Rattle.proof_magnitudes.specs.Accepted.{Accepted, accepted, accepted-same}
+use Rattle.proof_magnitudes.specs.Accepted.{accepted, accepted-same}
 use Rattle.sheet_figures.specs.declared.Figures.{Figures}
-use Rattle.sheet_figures.specs.Figures.{figuresOf, coefficientsOver, problemOf, in-arrays}
+use Rattle.sheet_figures.specs.Figures.{figuresOf, coefficientsOver, problemOf, array-whole, in-arrays}
+use Rattle.run_step.specs.Reached.{FiguresReady}
 
 -- ---- a sheet that is read, with its figures in arrays
 module _ (s : List ℕ) (read : layoutRefusal s ≡ none)
@@ -33,10 +34,14 @@ module _ (s : List ℕ) (read : layoutRefusal s ≡ none)
   agree : Agree (problemOf (figuresOf P k) (coefficientsOver lent P)) P
   agree = let h = accepted s read in in-arrays P k lent (h .materials-few) (h .limits-few) long
 
-  pub figures-accepted : Accepted (problemOf F a) (F .steps)
+  pub figures-ready : FiguresReady F a
   unfolding figuresOf
-  figures-accepted =
-      transport (λ i. Accepted (problemOf (sym e i) (sym c i)) (sym e i .steps)) (accepted-same agree (accepted s read))
+  figures-ready =
+      let h = accepted s read in
+      transport (λ i. FiguresReady (sym e i) (sym c i)) (record {
+        accepted = accepted-same agree h;
+        starts = array-whole 16 (P .limits) (P .startingMultiplier) (h .limits-few);
+      })
 
   pub plan-is : planAfter (problemOf F a) (F .steps) ≡ planOf (sheetOf s)
   unfolding figuresOf planOf

@@ -11,10 +11,9 @@ use Rattle.rules.specs.Run.{Plan, gapOf}
 use Rattle.rules.specs.Record.{recordLength}
 use Rattle.rules.specs.Refusals.{Numbered}
 use Rattle.rules.specs.Answers.{outcome, outcomeOf, bufferOf}
-use Rattle.proof_magnitudes.specs.Accepted.{Accepted}
 use Rattle.sheet_figures.specs.declared.Figures.{Figures}
-use Rattle.sheet_figures.specs.Figures.{problemOf}
 use Rattle.run_step.specs.declared.State.{State}
+use Rattle.run_step.specs.Reached.{FiguresReady}
 use Rattle.run_costs.specs.Costs.{costsOnly, GapFits}
 use Rattle.out_record.specs.RecordParts.{planIn}
 use Rattle.out_record.specs.declared.Head.{Head}
@@ -26,7 +25,7 @@ pub record Ends (p : Plan) (met : Option Numbered) (lent left : List ℕ) (resul
 
 -- the figures of an accepted sheet, with the coefficients in a, and a buffer that can take the record
 pub record RunReady (f : Figures) (a : List ℤ) (lent : List ℕ) : Type 0 where
-  pub accepted : Accepted (problemOf f a) (f .steps)
+  pub figures : FiguresReady f a
   pub room : recordLength (f .materials) (f .limits) ≤ length lent
 
 -- the plan of a run that ended with the state w

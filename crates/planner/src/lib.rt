@@ -4,8 +4,8 @@ ghost use lib.ListN.{length};
 ghost use Rattle.rules.specs.Run.{planAfter};
 ghost use Rattle.rules.specs.Answers.{stepRefusal, planRefusal};
 ghost use Rattle.rules.specs.Promise.{Promise};
-ghost use Rattle.proof_magnitudes.specs.Accepted.{Accepted};
 ghost use Rattle.sheet_figures.specs.Figures.{problemOf};
+ghost use Rattle.run_step.specs.Reached.{FiguresReady};
 ghost use Rattle.planner.specs.Finish.{Ends, RunReady, planWith, WriteReady};
 use out_layout::record_length;
 use out_record::Head;
@@ -58,7 +58,7 @@ fn plan_run(f: Figures, coefficient: &[i16; 512], record: &mut [u8]) -> Answer
 
 // The plan of a sheet's figures, or refusals 8 to 10.
 fn plan_figures(f: Figures, coefficient: &[i16; 512], record: &mut [u8]) -> Answer
-    requires { ⌜ Accepted (problemOf f (now coefficient)) (f .steps) ⌝ }
+    requires { ⌜ FiguresReady f (now coefficient) ⌝ }
     ensures { λ r. ⌜ Ends (planAfter (problemOf f (now (coefficient .entry))) (f .steps))
         (planRefusal (problemOf f (now (coefficient .entry))) (f .steps) (length (now («record» .entry))))
         (now («record» .entry)) (now («record» .exit)) r ⌝ }

@@ -9,8 +9,8 @@ use Rattle.proof_integer.specs.Vector.{tabulate-cong}
 use Rattle.rules.specs.Notation.{maxℤ, sumTo, tabulate, at}
 use Rattle.rules.specs.Problem.{Problem, costOf, loadOf}
 use Rattle.rules.specs.Step.{State, anyBelow, reducedCost, amount, residual, dualValue, lookAt, greatestCost}
-use Rattle.rules.specs.Step.{infeasible, moved, next, diverged}
-use Rattle.rules.specs.Run.{startingMultiplier, start, stateAfter, lookAfter, lowAfter, gapOf, planAfter}
+use Rattle.rules.specs.Step.{cheapestCost, infeasible, moved, next, diverged}
+use Rattle.rules.specs.Run.{start, stateAfter, lookAfter, lowAfter, gapOf, planAfter}
 use Rattle.rules.specs.Refusals.{refuse, _otherwise_}
 use Rattle.rules.specs.Answers.{refusalAt, stepRefusal}
 use Rattle.proof_laws.specs.FirstPlace.{first-cong}
@@ -26,6 +26,7 @@ pub record Agree (P Q : Problem) : Type 0 where
   pub most : (j : ℕ) → j < Q .materials → P .most j ≡ Q .most j
   pub coefficient : (i j : ℕ) → i < Q .limits → j < Q .materials → P .coefficient i j ≡ Q .coefficient i j
   pub rhs : (i : ℕ) → i < Q .limits → P .rhs i ≡ Q .rhs i
+  pub startingMultiplier : (i : ℕ) → i < Q .limits → P .startingMultiplier i ≡ Q .startingMultiplier i
 
 module _ {P Q : Problem} (same : Agree P Q) where
   -- ---- sums and lists over the materials, and over the limits
@@ -73,6 +74,10 @@ module _ {P Q : Problem} (same : Agree P Q) where
   unfolding greatestCost
   greatest-costs = costs _ _ (λ j l k. cond (ltZ (pos 0) (same .cost j l k)) (same .most j l k) (same .least j l k))
 
+  cheapest-costs : cheapestCost P ≡ cheapestCost Q
+  unfolding cheapestCost
+  cheapest-costs = costs _ _ (λ j l k. cond (ltZ (same .cost j l k) (pos 0)) (same .most j l k) (same .least j l k))
+
   -- ---- a look, and a step
   looks : (M : ℕ → ℤ) → lookAt P M ≡ lookAt Q M
   unfolding lookAt
@@ -111,12 +116,17 @@ module _ {P Q : Problem} (same : Agree P Q) where
 
   -- ---- the run
   starts : start P ≡ start Q
-  unfolding start startingMultiplier
+  unfolding start
   starts =
-      let zeros = by-limits (λ _. pos 0) (λ _. pos 0) (λ _ _. refl) in
+      let multipliers = by-limits (P .startingMultiplier) (Q .startingMultiplier) (same .startingMultiplier) in
       let sums = by-materials (λ _. pos 0) (λ _. pos 0) (λ _ _. refl) in
-      let low = dual-values (amount P (λ _. pos 0)) (amount Q (λ _. pos 0)) (amounts (λ _. pos 0)) (λ _. pos 0) in
-      λ k. record { multipliers = zeros k; sums = sums k; residualTotals = zeros k; lowerBound = low k }
+      let totals = by-limits (λ _. pos 0) (λ _. pos 0) (λ _ _. refl) in
+      λ k. record {
+        multipliers = multipliers k;
+        sums = sums k;
+        residualTotals = totals k;
+        lowerBound = pos (same .scale k) *ℤ cheapest-costs k;
+      }
 
   states : (t : ℕ) → stateAfter P t ≡ stateAfter Q t
   unfolding stateAfter

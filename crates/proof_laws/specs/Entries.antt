@@ -7,7 +7,7 @@ use borrow.Author.Tests.{eq-eqb, ne-eqb}
 use lib.Dec.{T, ltb, leb, eqb}
 use mir.Facts.{or-no, ltb-no}
 use Rattle.rules.specs.declared.Shape.{Shape}
-use Rattle.rules.specs.declared.Kind.the-variants.{Coefficient, Rhs}
+use Rattle.rules.specs.declared.Kind.the-variants.{Coefficient, Rhs, Start}
 use Rattle.rules.specs.Sheet.{Sheet, keyOf, rowOf, columnOf}
 use Rattle.rules.specs.Ranges.{kindAt}
 use Rattle.rules.specs.Refusals.{noFigureAt, notAbove, badKey}
@@ -26,26 +26,30 @@ module _ (shape : Shape) (i : ℕ) where
   abbrev n : ℕ
   n = shape .materials
 
-  limit-kind : (column : ℕ) → kindAt shape (3 + i) column ≡ cond (eqb column n) Rhs Coefficient
+  limit-kind : (column : ℕ)
+      → kindAt shape (3 + i) column ≡ cond (eqb column n) Rhs (cond (eqb column (n + 1)) Start Coefficient)
   unfolding kindAt
   limit-kind column = let three : 3 + i ≡ suc (suc (suc i)) = omega arith in rw three
 
   pub coefficient-kind : (j : ℕ) → j < n → kindAt shape (3 + i) j ≡ Coefficient
-  coefficient-kind j l = rw (limit-kind, ne-eqb j n (λ e. omega arith))
+  coefficient-kind j l = rw (limit-kind, ne-eqb j n (λ e. omega arith), ne-eqb j (n + 1) (λ e. omega arith))
 
   pub rhs-kind : kindAt shape (3 + i) n ≡ Rhs
   rhs-kind = rw (limit-kind, eq-eqb n n refl)
 
+  pub start-kind : kindAt shape (3 + i) (n + 1) ≡ Start
+  start-kind = rw (limit-kind, ne-eqb (n + 1) n (λ e. omega arith), eq-eqb (n + 1) (n + 1) refl)
+
 -- ---- where a figure stands
--- a figure's row is at most m + 2, and its column at most n
+-- a figure's row is at most m + 2, and its column at most n + 1
 pub figure-at : (shape : Shape) (row column : ℕ) → noFigureAt shape row column ≡ false
-    → (row ≤ shape .limits + 2) × (column ≤ shape .materials)
+    → (row ≤ shape .limits + 2) × (column ≤ shape .materials + 1)
 unfolding noFigureAt
 figure-at shape row column h =
     let n = shape .materials in
     let t : T (not (noFigureAt shape row column)) = rw h tt in
-    let (outside, last) = or-no (ltb (shape .limits + 2) row || ltb n column) (eqb column n && leb row 2) t in
-    let (r, c) = or-no (ltb (shape .limits + 2) row) (ltb n column) outside in
+    let (outside, last) = or-no (ltb (shape .limits + 2) row || ltb (n + 1) column) (leb n column && leb row 2) t in
+    let (r, c) = or-no (ltb (shape .limits + 2) row) (ltb (n + 1) column) outside in
     (ltb-no r, ltb-no c)
 
 -- does the key of entry i stand for no figure?

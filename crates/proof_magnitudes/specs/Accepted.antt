@@ -5,7 +5,7 @@ use mathlib.Core.Bool.{Bool, true, false, not, cond}
 use mathlib.Core.List.{List}
 use mathlib.Core.Option.{none}
 use Prim.Native.Nat.{ℕ, zero, suc, _+_, _<_, _≤_, zero-le}
-use native.Mathlib.Nat.{le-refl, le-step, le-of-lt, lt-suc-self}
+use native.Mathlib.Nat.{le-refl, le-step, lt-suc-self}
 use native.Mathlib.Omega.{arith}
 use lib.Dec.{T, eqb}
 use lib.IntN.{ℤ, pos}
@@ -16,16 +16,15 @@ use Rattle.proof_integer.specs.Order.{≤ℤ-trans}
 use Rattle.proof_integer.specs.Range.{Bnd, bnd-of, bnd-between}
 use Rattle.rules.specs.Notation.{neg, isZero}
 use Rattle.rules.specs.declared.Kind.{Kind}
-use Rattle.rules.specs.declared.Kind.the-variants.{Coefficient, Rhs}
+use Rattle.rules.specs.declared.Kind.the-variants.{Coefficient, Rhs, Start}
 use Rattle.rules.specs.declared.Range.{Range}
 use Rattle.rules.specs.declared.Shape.{Shape}
 use Rattle.rules.specs.Problem.{Problem}
 use Rattle.rules.specs.Sheet.{Sheet, sheetOf, keyOf, rowOf, columnOf, valueUnder, tableOf, problemFrom, problem}
 use Rattle.rules.specs.Ranges.{_from_to_, ranges, indexOf, rangeOf, kindAt, inRange}
 use Rattle.rules.specs.Ranges.{between, dimensionsInRange, parametersInRange}
-use Rattle.rules.specs.Run.{startingMultiplier}
 use Rattle.rules.specs.Refusals.{valueBad, badValue, crossed, sizesRefusal, valueRefusal, boundRefusal, layoutRefusal}
-use Rattle.proof_laws.specs.Entries.{key-parts, coefficient-kind, rhs-kind}
+use Rattle.proof_laws.specs.Entries.{key-parts, coefficient-kind, rhs-kind, start-kind}
 use Rattle.proof_laws.specs.Agreeing.{Agree}
 use Rattle.proof_laws.specs.NotRefused.{otherwise-none, refuse-none, first-none}
 
@@ -48,9 +47,9 @@ pub record Accepted (P : Problem) (k : ℕ) : Type 0 where
   pub most-in : (j : ℕ) → j < P .materials → P .most j ≤ℤ pos 1000
   pub coefficient-in : (i : ℕ) → i < P .limits → (j : ℕ) → j < P .materials → Bnd (P .coefficient i j) 1000
   pub rhs-in : (i : ℕ) → i < P .limits → Bnd (P .rhs i) 32000000
-  -- the start (T4.1): 0 ≤ M_i ≤ 2³⁰
-  pub start-sign : (i : ℕ) → i < P .limits → pos 0 ≤ℤ startingMultiplier P i
-  pub start-top : (i : ℕ) → i < P .limits → startingMultiplier P i ≤ℤ pos 1073741824
+  -- 0 ≤ s_i ≤ 2³⁰: a start that has no entry is 0 too
+  pub start-sign : (i : ℕ) → i < P .limits → pos 0 ≤ℤ P .startingMultiplier i
+  pub start-top : (i : ℕ) → i < P .limits → P .startingMultiplier i ≤ℤ pos 1073741824
 
 -- ---- the tests that the ranges follow from, each over the whole sheet
 record Passed (S : Sheet) : Type 0 where
@@ -93,6 +92,10 @@ module _ (shape : Shape) (i : ℕ) where
   unfolding rangeOf ranges indexOf
   rhs-range = rw (rhs-kind shape i)
 
+  start-range : rangeAt shape (3 + i) (shape .materials + 1) ≡ Start from pos 1 to pos 1073741824
+  unfolding rangeOf ranges indexOf
+  start-range = rw (start-kind shape i)
+
 -- v lies in r
 record Within (r : Range) (v : ℤ) : Type 0 where
   low : r .least ≤ℤ v
@@ -127,7 +130,7 @@ module _ (S : Sheet) (h : Passed S) where
       let (nonzero, good) = or-no (isZero (S .value i)) (not (inRange r (S .value i))) (h .values i l) in
       search (T-not-not, parts)
 
-  module _ (row column : ℕ) (l : column ≤ n) where
+  module _ (row column : ℕ) (l : column ≤ n + 1) where
     -- every fact of a figure, by cases: 0, or a value in the range at its row and column
     figure-cases : (Q : ℤ → Type 0) → Q (pos 0) → ((v : ℤ) → Within (rangeAt shape row column) v → Q v)
         → Q (tableOf S (keyOf row column))
@@ -147,7 +150,6 @@ module _ (S : Sheet) (h : Passed S) where
 
   ranged : Accepted (problem S) (S .sizes .steps)
   unfolding problemFrom dimensionsInRange parametersInRange between kindAt rangeOf ranges indexOf crossed
-      startingMultiplier
   ranged = record {
     materials-some = search parts;
     materials-few = search parts;
@@ -158,15 +160,19 @@ module _ (S : Sheet) (h : Passed S) where
     scale-small = search parts;
     steps-some = search parts;
     steps-few = search parts;
-    cost-in = λ j l. figure-bnd 0 j (le-of-lt l) 10000 refl;
+    cost-in = λ j l. figure-bnd 0 j (omega arith) 10000 refl;
     least-sign = λ j l.
-        figure-cases 1 j (le-of-lt l) (λ v. pos 0 ≤ℤ v) (leZ-yes tt) (λ v w. ≤ℤ-trans (leZ-yes tt) (w .low));
+        figure-cases 1 j (omega arith) (λ v. pos 0 ≤ℤ v) (leZ-yes tt) (λ v w. ≤ℤ-trans (leZ-yes tt) (w .low));
     ordered = λ j l. ltZ-no (h .bounds j l);
-    most-in = λ j l. figure-cases 2 j (le-of-lt l) (λ v. v ≤ℤ pos 1000) (leZ-yes tt) (λ v w. w .high);
-    coefficient-in = λ i _ j l. figure-bnd (3 + i) j (le-of-lt l) 1000 (coefficient-range shape i j l);
-    rhs-in = λ i _. figure-bnd (3 + i) n (le-refl _) 32000000 (rhs-range shape i);
-    start-sign = λ i _. leZ-yes tt;
-    start-top = λ i _. leZ-yes tt;
+    most-in = λ j l. figure-cases 2 j (omega arith) (λ v. v ≤ℤ pos 1000) (leZ-yes tt) (λ v w. w .high);
+    coefficient-in = λ i _ j l. figure-bnd (3 + i) j (omega arith) 1000 (coefficient-range shape i j l);
+    rhs-in = λ i _. figure-bnd (3 + i) n (omega arith) 32000000 (rhs-range shape i);
+    start-sign = λ i _.
+        figure-cases (3 + i) (n + 1) (le-refl _) (λ v. pos 0 ≤ℤ v) (leZ-yes tt)
+        (λ v w. ≤ℤ-trans (leZ-yes tt) ((rw (start-range shape i) at w) .low));
+    start-top = λ i _.
+        figure-cases (3 + i) (n + 1) (le-refl _) (λ v. v ≤ℤ pos 1073741824) (leZ-yes tt)
+        (λ v w. (rw (start-range shape i) at w) .high);
   }
 
 -- Where none of refusals 1 to 7 is given, the problem of the sheet and its step count lie in their ranges.
@@ -175,7 +181,6 @@ accepted s h = ranged (sheetOf s) (passed s h)
 
 -- ---- problems that agree lie in the same ranges
 pub accepted-same : {P Q : Problem} {k : ℕ} → Agree P Q → Accepted Q k → Accepted P k
-unfolding startingMultiplier
 accepted-same {P} {Q} same a = record {
   materials-some = rw (same .materials) (a .materials-some);
   materials-few = rw (same .materials) (a .materials-few);
@@ -193,8 +198,8 @@ accepted-same {P} {Q} same a = record {
   coefficient-in = λ i h j l.
       rw (same .coefficient i j (limit h) (material l)) (a .coefficient-in i (limit h) j (material l));
   rhs-in = λ i h. rw (same .rhs i (limit h)) (a .rhs-in i (limit h));
-  start-sign = λ i h. a .start-sign i (limit h);
-  start-top = λ i h. a .start-top i (limit h);
+  start-sign = λ i h. rw (same .startingMultiplier i (limit h)) (a .start-sign i (limit h));
+  start-top = λ i h. rw (same .startingMultiplier i (limit h)) (a .start-top i (limit h));
 }
   where
     material : {j : ℕ} → j < P .materials → j < Q .materials

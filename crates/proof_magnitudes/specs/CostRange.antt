@@ -30,7 +30,7 @@ module _ (P : Problem) where
 
   module _ (d : ℤ) (y : ℕ → ℤ) (within : WithinBounds P d y) where
     -- d·cheapest ≤ c·y
-    cost-above : (d *ℤ cheapestCost P) ≤ℤ costOf P y
+    pub cost-above : (d *ℤ cheapestCost P) ≤ℤ costOf P y
     unfolding cheapestCost costOf
     cost-above = sum-least P (P .cost) cheapestEnd cheapest-minimal d y within
 

@@ -4,7 +4,7 @@
 --   Minimal         which end of its bounds a material takes: source document 004, equation (8)
 --   CostRange       the cheapest and the greatest cost that the bounds leave
 --   Steps           the run's looks and totals, by their formulas
---   Opening         low before any step
+--   Opening         low before any step, and after step 0 where multipliers begin at 0
 --   Magnitudes      the figures of a step
 --   RunMagnitudes   the figures of a run: `magnitudes`, by a sheet's bytes, and `run-magnitudes`, by its figures
 --   PlanFits        the figures of a plan fit the bytes that a record has for them

@@ -1,17 +1,21 @@
--- Low before any step: at multipliers of 0 the dual value is D times the cheapest cost that the bounds leave.
+-- Low before any step is D times the cheapest cost (T5.3). Where multipliers begin at 0, that is the dual value of step
+-- 0: so low is then the largest dual value.
 use mathlib.Core.Path.{_≡_, refl, sym, ap, _∙_}
 use mathlib.Core.Bool.{true, cond}
-use Prim.Native.Nat.{ℕ, zero, suc, _*_, _≤_, zero-le}
+use Prim.Native.Nat.{ℕ, zero, suc, _*_, _<_, _≤_, zero-le}
 use native.Mathlib.Nat.{suc-mul}
 use native.Mathlib.Omega.{arith}
 use borrow.Author.Tests.{le-ltb}
-use lib.IntN.{ℤ, pos, negsuc, negℤ, _*ℤ_, +ℤ-idr, zero-*ℤ}
+use lib.IntN.{ℤ, pos, negsuc, negℤ, _+ℤ_, _*ℤ_, +ℤ-idr, zero-*ℤ}
 use lib.Signed.{ltZ}
+use Rattle.proof_integer.specs.Order.{max-cases}
 use Rattle.proof_integer.specs.Sum.{sumTo-none, sumTo-cong}
+use Rattle.rules.specs.Notation.{sumTo}
 use Rattle.rules.specs.Problem.{Problem, costOf}
-use Rattle.rules.specs.Step.{reducedCost, amount, dualValue, cheapestCost}
-use Rattle.rules.specs.Run.{startingMultiplier, start, stateAfter}
+use Rattle.rules.specs.Step.{reducedCost, amount, dualValue, lookAt, cheapestCost, next}
+use Rattle.rules.specs.Run.{start, stateAfter, lookAfter, lowAfter}
 use Rattle.proof_magnitudes.specs.CostRange.{cheapestEnd}
+use Rattle.proof_magnitudes.specs.Steps.{entering, amounts, entering-first, amounts-are}
 
 -- a cost times D has the sign of the cost
 same-sign : (D : ℕ) (c : ℤ) → 1 ≤ D → ltZ (pos D *ℤ c) (pos 0) ≡ ltZ c (pos 0)
@@ -23,22 +27,38 @@ same-sign (suc D) (negsuc n) h = below (suc D * suc n) (rw suc-mul (omega arith)
     below zero k = absurd (omega arith)
     below (suc m) k = refl
 
--- at multipliers of 0 the dual value is D·c·x
-pub at-zero : (P : Problem) (x : ℕ → ℤ) → dualValue P (λ _. pos 0) x ≡ pos (P .scale) *ℤ costOf P x
-unfolding dualValue
-at-zero P x = simp (zero-*ℤ, sumTo-none, +ℤ-idr)
+module _ (P : Problem) (M : ℕ → ℤ) (at-zero : (i : ℕ) → i < P .limits → M i ≡ pos 0) where
+  -- multipliers of 0 add nothing
+  nothing-added : (z : ℤ) (f : ℕ → ℤ) → z +ℤ sumTo (P .limits) (λ i. M i *ℤ f i) ≡ z
+  nothing-added z f =
+      ap (λ s. z +ℤ s) (sumTo-cong (P .limits) _ (λ _. pos 0) (λ i l. rw (at-zero i l) (zero-*ℤ (f i)))
+      ∙ sumTo-none (P .limits))
+      ∙ +ℤ-idr z
 
-module _ (P : Problem) (scale-some : 1 ≤ P .scale) where
-  -- the amounts at multipliers of 0 are those of the cheapest cost
-  amount-at-zero : (j : ℕ) → amount P (λ _. pos 0) j ≡ cheapestEnd P j
+  -- so that the dual value is D·c·x
+  pub value-at-zero : (x : ℕ → ℤ) → dualValue P M x ≡ pos (P .scale) *ℤ costOf P x
+  unfolding dualValue
+  value-at-zero x = nothing-added _ _
+
+  -- and the amounts are those of the cheapest cost
+  amount-at-zero : 1 ≤ P .scale → (j : ℕ) → amount P M j ≡ cheapestEnd P j
   unfolding amount reducedCost
-  amount-at-zero j =
-      simp (zero-*ℤ, sumTo-none, +ℤ-idr)
-      (ap (λ b. cond b (P .most j) (P .least j)) (same-sign (P .scale) (P .cost j) scale-some))
+  amount-at-zero some j =
+      rw (nothing-added (pos (P .scale) *ℤ P .cost j) (λ i. P .coefficient i j))
+      (ap (λ b. cond b (P .most j) (P .least j)) (same-sign (P .scale) (P .cost j) some))
 
-  pub opening-low : stateAfter P 0 .lowerBound ≡ pos (P .scale) *ℤ cheapestCost P
-  unfolding stateAfter start startingMultiplier cheapestCost costOf
-  opening-low =
-      at-zero P (amount P (λ _. pos 0))
-      ∙ ap (λ z. pos (P .scale) *ℤ z)
-      (sumTo-cong (P .materials) _ _ (λ j _. ap (λ x. P .cost j *ℤ x) (amount-at-zero j)))
+-- after step 0, low is its dual value
+pub first-low : (P : Problem) → 1 ≤ P .scale → ((i : ℕ) → i < P .limits → P .startingMultiplier i ≡ pos 0)
+    → lowAfter P 1 ≡ lookAfter P 0 .dualValue
+unfolding lowAfter stateAfter start next lookAfter lookAt cheapestCost costOf
+first-low P some unstarted = max-cases _ _ (λ low. low ≡ lookAfter P 0 .dualValue) (λ _. refl) (λ _. sym begins)
+  where
+    at-zero : (i : ℕ) → i < P .limits → entering P 0 i ≡ pos 0
+    at-zero i l = entering-first P i l ∙ unstarted i l
+
+    begins : dualValue P (entering P 0) (amounts P 0) ≡ pos (P .scale) *ℤ cheapestCost P
+    begins =
+        value-at-zero P (entering P 0) at-zero (amounts P 0)
+        ∙ ap (λ z. pos (P .scale) *ℤ z)
+        (sumTo-cong (P .materials) _ _ (λ j l.
+        ap (λ x. P .cost j *ℤ x) (amounts-are P 0 j l ∙ amount-at-zero P (entering P 0) at-zero some j)))

@@ -12,23 +12,20 @@ use lib.Signed.{_≤ℤ_, ltZ-no, leZ-yes}
 use Rattle.proof_integer.specs.Order.{≤ℤ-trans, max-left, max-least}
 use Rattle.proof_integer.specs.Range.{Bnd, _b+_, _b-_, _b*_, bnd-of, bnd-between, between-bnd}
 use Rattle.proof_integer.specs.Sum.{sumTo-bnd}
-use Rattle.proof_integer.specs.Vector.{at-tabulate}
 use Rattle.rules.specs.Notation.{at}
 use Rattle.rules.specs.Problem.{Problem}
 use Rattle.rules.specs.Sheet.{sheetOf, problem}
 use Rattle.rules.specs.Step.{greatestCost, cheapestCost, infeasible, next, diverged}
-use Rattle.rules.specs.Run.{startingMultiplier, start, stateAfter, lookAfter, lowAfter, gapOf}
+use Rattle.rules.specs.Run.{start, stateAfter, lookAfter, lowAfter, gapOf}
 use Rattle.rules.specs.Refusals.{firstBelow, layoutRefusal}
 use Rattle.rules.specs.Answers.{refusalAt, stepRefusal}
 use Rattle.proof_magnitudes.specs.Minimal.{minimal-within}
-use Rattle.proof_magnitudes.specs.Opening.{at-zero}
 use Rattle.proof_magnitudes.specs.CostRange.{cheapestEnd, greatestEnd, cheapest-minimal, greatest-minimal}
 use Rattle.proof_magnitudes.specs.CostRange.{InCostRange, cost-in-range}
 use Rattle.proof_laws.specs.Below.{any-none}
 use Rattle.proof_laws.specs.NotRefused.{otherwise-none, refuse-none}
-use Rattle.proof_magnitudes.specs.Steps.{entering, amounts, residuals, residuals-are, chosen-minimal}
-use Rattle.proof_magnitudes.specs.Steps.{amounts-minimal}
-use Rattle.proof_magnitudes.specs.Steps.{entering-sign, sums-are, totals-are}
+use Rattle.proof_magnitudes.specs.Steps.{entering, amounts, residuals, entering-first, residuals-are}
+use Rattle.proof_magnitudes.specs.Steps.{amounts-minimal, entering-sign, sums-are, totals-are}
 use Rattle.proof_magnitudes.specs.Accepted.{Accepted, accepted}
 use Rattle.proof_magnitudes.specs.Magnitudes.{Fits64, fit, CostMagnitudes, StepMagnitudes}
 use Rattle.proof_magnitudes.specs.Magnitudes.{amounts-bnd, cost-magnitudes, residual-bnd, step-magnitudes}
@@ -77,19 +74,18 @@ low-next P t r feasible = record {
 module _ {P : Problem} {k : ℕ} (a : Accepted P k) where
   -- ---- T4.8 keeps the multipliers at most 2³⁰
   multiplier-top : (t : ℕ) → stepRefusal P t ≡ none → (i : ℕ) → i < P .limits → entering P t i ≤ℤ pos 1073741824
-  unfolding stateAfter start diverged
-  multiplier-top zero h i l = rw (at-tabulate (P .limits) (startingMultiplier P) i l) (a .start-top i l)
+  unfolding diverged
+  multiplier-top zero h i l = rw (entering-first P i l) (a .start-top i l)
   multiplier-top (suc t) h i l = ltZ-no (any-none (P .limits) _ (not-refused P t h .2) i l)
 
   multiplier-bnd : (t : ℕ) → stepRefusal P t ≡ none → (i : ℕ) → i < P .limits → Bnd (entering P t i) 1073741824
   multiplier-bnd t h i l =
       bnd-between (≤ℤ-trans (leZ-yes tt) (entering-sign P (a .start-sign) t i l)) (multiplier-top t h i l)
 
-  -- ---- low begins at D times the cost of amounts within the bounds, and T4.6 keeps it in the range of the costs
+  -- ---- low begins at D times the cheapest cost, and T4.6 keeps it in the range of the costs
   low-range : (t : ℕ) → stepRefusal P t ≡ none → InCostRange P (stateAfter P t .lowerBound)
-  unfolding stateAfter start startingMultiplier
-  low-range zero h =
-      rw at-zero (cost-in-range P _ (minimal-within (a .ordered) (chosen-minimal P (startingMultiplier P))))
+  unfolding stateAfter start cheapestCost
+  low-range zero h = cost-in-range P (cheapestEnd P) (minimal-within (a .ordered) (cheapest-minimal P))
   low-range (suc t) h = let (before, feasible, _) = not-refused P t h in low-next P t (low-range t before) feasible
 
   low-bnd : (t : ℕ) → stepRefusal P t ≡ none → Bnd (stateAfter P t .lowerBound) 327680000000

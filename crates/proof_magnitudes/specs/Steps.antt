@@ -9,7 +9,7 @@ use Rattle.proof_integer.specs.Vector.{at-tabulate}
 use Rattle.rules.specs.Notation.{sumTo, at}
 use Rattle.rules.specs.Problem.{Problem}
 use Rattle.rules.specs.Step.{reducedCost, amount, residual, lookAt, moved, next}
-use Rattle.rules.specs.Run.{startingMultiplier, start, stateAfter, lookAfter}
+use Rattle.rules.specs.Run.{start, stateAfter, lookAfter}
 use Rattle.proof_magnitudes.specs.Minimal.{AllMinimal, rule-minimal}
 
 module _ (P : Problem) where
@@ -23,8 +23,13 @@ module _ (P : Problem) where
   abbrev pub residuals : ℕ → ℕ → ℤ
   residuals t = at (lookAfter P t .residuals)
 
+  -- the starting multipliers enter step 0
+  pub entering-first : (i : ℕ) → i < P .limits → entering 0 i ≡ P .startingMultiplier i
+  unfolding stateAfter start
+  entering-first i l = at-tabulate (P .limits) (P .startingMultiplier) i l
+
   -- ---- what a step works out, by its formulas
-  amounts-are : (t j : ℕ) → j < P .materials → amounts t j ≡ amount P (entering t) j
+  pub amounts-are : (t j : ℕ) → j < P .materials → amounts t j ≡ amount P (entering t) j
   unfolding lookAfter lookAt
   amounts-are t j l = at-tabulate (P .materials) (amount P (entering t)) j l
 
@@ -37,7 +42,7 @@ module _ (P : Problem) where
   leaving t i l = at-tabulate (P .limits) (moved P (entering t) (residuals t)) i l
 
   -- ---- its amounts are minimal, by T4.3
-  pub chosen-minimal : (M : ℕ → ℤ) → AllMinimal P (reducedCost P M) (amount P M)
+  chosen-minimal : (M : ℕ → ℤ) → AllMinimal P (reducedCost P M) (amount P M)
   unfolding amount
   chosen-minimal M j _ = rule-minimal (reducedCost P M j) (P .least j) (P .most j)
 
@@ -61,10 +66,10 @@ module _ (P : Problem) where
 
 -- no starting multiplier is negative
 abbrev pub StartSign : Problem → Type 0
-StartSign P = (i : ℕ) → i < P .limits → pos 0 ≤ℤ startingMultiplier P i
+StartSign P = (i : ℕ) → i < P .limits → pos 0 ≤ℤ P .startingMultiplier i
 
 -- and then none that enters a step
 pub entering-sign : (P : Problem) → StartSign P → (t i : ℕ) → i < P .limits → pos 0 ≤ℤ entering P t i
-unfolding stateAfter start moved
-entering-sign P start-sign zero i l = rw (at-tabulate (P .limits) (startingMultiplier P) i l) (start-sign i l)
+unfolding moved
+entering-sign P start-sign zero i l = rw (entering-first P i l) (start-sign i l)
 entering-sign P start-sign (suc t) i l = rw (leaving P t i l) (max-left (pos 0) _)

@@ -1,6 +1,6 @@
 -- Source document 004, Lemma 2(a), the basic iterate relation: how far from any ν ≥ 0 the multipliers can be after a
 -- step.
-use mathlib.Core.Path.{_≡_}
+use mathlib.Core.Path.{_≡_, refl}
 use mathlib.Core.List.{[], _∷_}
 use Prim.Native.Nat.{ℕ, _*_, _<_}
 use native.Mathlib.Omega.{arith}
@@ -15,7 +15,7 @@ use Rattle.rules.specs.Problem.{Problem, costOf}
 use Rattle.rules.specs.Step.{residual, dualValue}
 use Rattle.rules.specs.Margins.{square}
 use Rattle.proof_magnitudes.specs.Minimal.{WithinBounds}
-use Rattle.proof_magnitudes.specs.Opening.{at-zero}
+use Rattle.proof_magnitudes.specs.Opening.{value-at-zero}
 use Rattle.proof_margins.specs.Lagrangian.{at-whole}
 use Rattle.proof_margins.specs.FourFacts.{FourFacts}
 
@@ -56,7 +56,9 @@ module _ {P : Problem} {M x M′ : ℕ → ℤ} (facts : FourFacts P M x M′) w
 
   -- from ν = 0, where the Lagrangian is D·c·x: ‖M′‖² − ‖M‖² ≤ 2·p·(V − D·c·x) + p²·‖residuals‖²
   pub from-zero : (norm² P M′ -ℤ norm² P M) ≤ℤ growth P x (dualValue P M x) (pos (P .scale) *ℤ costOf P x)
-  from-zero = simp (at-zero, +ℤ-idr) at (iterate-relation (λ _. pos 0) (λ _ _. ≤ℤ-refl (pos 0)))
+  from-zero =
+      simp (value-at-zero P (λ _. pos 0) (λ _ _. refl), +ℤ-idr) at
+      (iterate-relation (λ _. pos 0) (λ _ _. ≤ℤ-refl (pos 0)))
 
   -- Lemma 2(a) as the source has it, though with ‖M − ν‖² on this side: with q(ν), the dual value of a step that enters
   -- with ν, for amounts within the bounds. The theorem goes by `from-zero`, and not by this.

@@ -1,16 +1,16 @@
 -- Every plan has its margins: weak duality gives low (T9.3) and the excess (T9.4), Proposition 1(a) the residual totals
 -- (T9.5), and Proposition 1(b) the squares (T9.6).
 use mathlib.Core.Path.{_≡_, ap, _∙_}
-use Prim.Native.Nat.{ℕ, _<_}
-use lib.IntN.{pos, _*ℤ_, +ℤ-idl, +ℤ-idr}
-use Rattle.proof_integer.specs.Sum.{sumTo-cong, sumTo-none}
-use Rattle.proof_integer.specs.Vector.{at-tabulate}
+use Prim.Native.Nat.{ℕ}
+use lib.IntN.{pos, _*ℤ_}
+use Rattle.proof_integer.specs.Sum.{sumTo-cong}
 use Rattle.rules.specs.Notation.{sumTo, at}
 use Rattle.rules.specs.Problem.{Problem, costOf}
 use Rattle.rules.specs.Step.{residual}
-use Rattle.rules.specs.Run.{startingMultiplier, start, stateAfter, lowAfter, gapOf, planAfter}
+use Rattle.rules.specs.Run.{stateAfter, lowAfter, gapOf, planAfter}
 use Rattle.rules.specs.Margins.{square, PlanMargins}
-use Rattle.proof_magnitudes.specs.Steps.{entering, amounts, residuals, residuals-are, StartSign, sums-are, totals-are}
+use Rattle.proof_magnitudes.specs.Steps.{entering, amounts, residuals, entering-first, residuals-are, StartSign}
+use Rattle.proof_magnitudes.specs.Steps.{sums-are, totals-are}
 use Rattle.proof_margins.specs.WeakDuality.{excess}
 use Rattle.proof_margins.specs.IterateRelation.{norm²}
 use Rattle.proof_margins.specs.Violation.{proposition-1a}
@@ -18,16 +18,10 @@ use Rattle.proof_margins.specs.PrimalCost.{proposition-1b}
 use Rattle.proof_margins.specs.RunSteps.{steps, low-above-values, low-below-costs}
 
 module _ (P : Problem) where
-  -- ---- the run begins at 0
-  starts-at-zero : (i : ℕ) → i < P .limits → entering P 0 i ≡ pos 0
-  unfolding stateAfter start startingMultiplier
-  starts-at-zero i l = at-tabulate (P .limits) (startingMultiplier P) i l
-
-  no-starting-squares : norm² P (entering P 0) ≡ pos 0
-  no-starting-squares =
-      sumTo-cong (P .limits) _ (λ _. pos 0) (λ i l. ap square (starts-at-zero i l)) ∙ sumTo-none (P .limits)
-
   -- ---- the figures of a plan are those of its steps
+  starting-squares : norm² P (entering P 0) ≡ norm² P (P .startingMultiplier)
+  starting-squares = sumTo-cong (P .limits) _ _ (λ i l. ap square (entering-first P i l))
+
   cost-of-sums : (k : ℕ) → costOf P (at (stateAfter P k .sums)) ≡ costOf P (λ j. sumTo k (λ t. amounts P t j))
   unfolding costOf
   cost-of-sums k = sumTo-cong (P .materials) _ _ (λ j l. ap (λ a. P .cost j *ℤ a) (sums-are P k j l))
@@ -43,10 +37,9 @@ module _ (P : Problem) where
     lower = low-below-costs P start-sign k;
     excess = λ d y f. excess k d _ _ _ (low-below-costs P start-sign k d y f);
     residualTotals = λ i l.
-        rw (totals-are P k i l)
-        (simp (starts-at-zero i l, +ℤ-idr) at (proposition-1a (steps P start-sign k) i l));
+        rw (totals-are P k i l) (rw (entering-first P i l) at (proposition-1a (steps P start-sign k) i l));
     squares =
         rw (cost-of-sums k, squared-residuals k)
-        (simp (no-starting-squares, +ℤ-idl) at
+        (rw starting-squares at
         (proposition-1b (steps P start-sign k) (lowAfter P k) (low-above-values P k)));
   }

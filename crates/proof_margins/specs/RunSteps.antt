@@ -1,16 +1,19 @@
 -- The run of `rules`: each of its steps has the four facts, and low lies between the dual values and the costs of
 -- feasible points.
-use mathlib.Core.Path.{_≡_, refl, ap, _∙_}
+use mathlib.Core.Path.{_≡_, ap, _∙_}
 use Prim.Native.Nat.{ℕ, zero, suc, _<_}
 use lib.IntN.{ℤ, pos, _+ℤ_, _*ℤ_}
 use lib.Signed.{_≤ℤ_}
-use Rattle.proof_integer.specs.Order.{≤ℤ-trans, max-cases, max-left, max-right}
+use Rattle.proof_integer.specs.Order.{≤ℤ-trans, *ℤ-mono-l, pos-nonneg, max-cases, max-left, max-right}
+use Rattle.proof_integer.specs.Ring.{*ℤ-left-comm}
 use Rattle.rules.specs.Notation.{maxℤ}
 use Rattle.rules.specs.Problem.{Problem, Feasible, costOf}
-use Rattle.rules.specs.Step.{amount, residual, dualValue, lookAt, moved, next}
-use Rattle.rules.specs.Run.{startingMultiplier, start, stateAfter, lookAfter, lowAfter}
+use Rattle.rules.specs.Step.{residual, dualValue, lookAt, cheapestCost, moved, next}
+use Rattle.rules.specs.Run.{start, stateAfter, lookAfter, lowAfter}
 use Rattle.proof_laws.specs.Below.{below-zero, below-suc}
-use Rattle.proof_magnitudes.specs.Steps.{entering, amounts, residuals-are, leaving, chosen-minimal, amounts-minimal}
+use Rattle.proof_magnitudes.specs.Minimal.{feasible-within}
+use Rattle.proof_magnitudes.specs.CostRange.{cost-above}
+use Rattle.proof_magnitudes.specs.Steps.{entering, amounts, residuals-are, leaving, amounts-minimal}
 use Rattle.proof_magnitudes.specs.Steps.{StartSign, entering-sign}
 use Rattle.proof_margins.specs.FourFacts.{FourFacts, Steps, four-facts}
 use Rattle.proof_margins.specs.WeakDuality.{weak-duality}
@@ -45,14 +48,13 @@ module _ (P : Problem) (start-sign : StartSign P) where
   pub steps : (k : ℕ) → Steps P k (entering P) (amounts P)
   steps k t _ = facts t
 
-  -- T9.3: low is above the cost of no feasible point
+  -- T9.3: low is above the cost of no feasible point. D times the cheapest cost is not, and no dual value is
   pub low-below-costs : (k : ℕ) (d : ℤ) (y : ℕ → ℤ) → Feasible P d y
       → (d *ℤ lowAfter P k) ≤ℤ (pos (P .scale) *ℤ costOf P y)
   unfolding lowAfter stateAfter start next lookAfter lookAt
-  low-below-costs zero =
-      let M = startingMultiplier P in
-      weak-duality
-      (four-facts P M (amount P M) (moved P M (residual P (amount P M))) (chosen-minimal P M) start-sign (λ _ _. refl))
+  low-below-costs zero = λ d y f.
+      rw (*ℤ-left-comm d (pos (P .scale)) (cheapestCost P))
+      (*ℤ-mono-l (pos-nonneg (P .scale)) (cost-above P d y (feasible-within f)))
   low-below-costs (suc k) = λ d y f.
       max-cases _ _ (λ low. (d *ℤ low) ≤ℤ (pos (P .scale) *ℤ costOf P y))
       (λ _. weak-duality (facts k) d y f) (λ _. low-below-costs k d y f)

@@ -3,16 +3,17 @@
 use mathlib.Core.Path.{refl}
 use Prim.Native.Nat.{ℕ}
 use lib.Dec.{lit<}
-use lib.IntN.{ℤ, pos, negℤ, _+ℤ_, _*ℤ_}
+use lib.IntN.{ℤ, pos, negℤ, _+ℤ_, _-ℤ_, _*ℤ_}
 use lib.Signed.{_≤ℤ_, leZ-yes}
 use Rattle.rules.specs.Notation.{neg, maxℤ, sumTo, at}
 use Rattle.rules.specs.Problem.{Problem, NoneFeasible}
 use Rattle.rules.specs.Step.{reducedCost, dualValue}
-use Rattle.rules.specs.Run.{lookAfter}
+use Rattle.rules.specs.Run.{lookAfter, planAfter}
 use Rattle.rules.specs.Margins.{square, PlanMargins, Margins}
 use Rattle.rules.specs.Rows.{Holds}
 use Rattle.rules.specs.Marked.{C1, C2, C3}
-use Rattle.rules.specs.Points.{fromSheet, P₁, P₂, S₄, P₄, wholes, wholes-feasible, halves, halves-feasible}
+use Rattle.rules.specs.Started.{S2, S7}
+use Rattle.rules.specs.Points.{fromSheet, P₁, P₂, S₄, P₄, P₆, wholes, wholes-feasible, halves, halves-feasible}
 use Rattle.rules.specs.Points.{residual-left, residual-right, squares-left, squares-right}
 use Rattle.proof_magnitudes.specs.Minimal.{most, AllMinimal, WithinBounds}
 use Rattle.proof_magnitudes.specs.Steps.{entering}
@@ -49,10 +50,21 @@ claims-S₄ =
     let plan : PlanMargins P₄ 2 (pos 0) (pos 12) = margins S₄ 38 in
     (plan .residualTotals 0 (lit< tt), plan .squares)
 
--- ---- C3, refused with 9: it has no feasible point
+-- ---- S7, with a start and gap 12: −4 ≤ −4, and 160 ≤ 160
+pub claims-S7 : (residual-left P₆ 1 ≤ℤ residual-right P₆ 1) × (squares-left P₆ 1 (pos 12) ≤ℤ squares-right P₆ 1)
+unfolding Holds Margins
+claims-S7 =
+    let plan : PlanMargins P₆ 1 (pos 0) (pos 12) = margins (S7 .sheet) (S7 .room) in
+    (plan .residualTotals 0 (lit< tt), plan .squares)
+
+-- ---- C3 and, at step 0, S2, refused with 9: they have no feasible point
 pub infeasible-C3 : NoneFeasible (fromSheet (C3 .sheet))
 unfolding Holds Margins
 infeasible-C3 = margins (C3 .sheet) (C3 .room) refl
+
+pub infeasible-S2 : NoneFeasible (fromSheet (S2 .sheet))
+unfolding Holds Margins
+infeasible-S2 = margins (S2 .sheet) (S2 .room) refl
 
 -- ---- near claims that are false, each made by a must-fail edit: F1 to F3 at plain numbers, and the two sums at C2
 -- F1 by the other sign of the reduced cost, at one material of cost 1, from 0 to 1, with no limits
@@ -67,6 +79,7 @@ one-material = record {
   most = λ _. pos 1;
   coefficient = λ _ _. pos 0;
   rhs = λ _. pos 0;
+  startingMultiplier = λ _. pos 0;
 }
 
 pub minimum-other-sign : ((P : Problem) (M x : ℕ → ℤ) → AllMinimal P (λ j. negℤ (reducedCost P M j)) x
@@ -100,3 +113,16 @@ pub squares-of-one-step-less :
     ≤ℤ (square (pos (P₂ .numerator)) *ℤ sumTo 0 (λ t. norm² P₂ (at (lookAfter P₂ t .residuals)))) → ⊥
 unfolding Holds
 squares-of-one-step-less claim = claim .le
+
+-- at S7, the residual claim for twice the start, −4 ≤ 8 − 24, and the squares claim without the starting squares,
+-- 160 ≤ 16
+pub residuals-with-start-twice :
+    residual-left P₆ 1 ≤ℤ (at (planAfter P₆ 1 .multipliers) 0 -ℤ pos 2 *ℤ P₆ .startingMultiplier 0) → ⊥
+unfolding Holds
+residuals-with-start-twice claim = claim .le
+
+pub squares-without-start :
+    squares-left P₆ 1 (pos 12)
+    ≤ℤ (square (pos (P₆ .numerator)) *ℤ sumTo 1 (λ t. norm² P₆ (at (lookAfter P₆ t .residuals)))) → ⊥
+unfolding Holds
+squares-without-start claim = claim .le

@@ -118,10 +118,11 @@ ends =
     refusal-row (encode 1 0 1 1025 1 []) 42 Parameters 0 "refused 4 0\n" ∷
     refusal-row (encode 1 0 1 1 0 []) 42 Parameters 0 "refused 4 0\n" ∷
     refusal-row (encode 1 0 1 1 4097 []) 42 Parameters 0 "refused 4 0\n" ∷
-    -- row m+3; column n+1 in a limit's row; column n in row 2; the largest key
+    -- row m+3; column n+2 in a limit's row; columns n and n+1 in row 2; the largest key
     refusal-row (encode 1 0 1 1 1 (192 ∶ pos 1 ∷ [])) 42 Key 0 "refused 5 0\n" ∷
-    refusal-row (encode 1 1 1 1 1 (194 ∶ pos 1 ∷ [])) 42 Key 0 "refused 5 0\n" ∷
+    refusal-row (encode 1 1 1 1 1 (195 ∶ pos 1 ∷ [])) 42 Key 0 "refused 5 0\n" ∷
     refusal-row (encode 1 0 1 1 1 (129 ∶ pos 1 ∷ [])) 42 Key 0 "refused 5 0\n" ∷
+    refusal-row (encode 1 1 1 1 1 (130 ∶ pos 1 ∷ [])) 42 Key 0 "refused 5 0\n" ∷
     refusal-row (encode 1 0 1 1 1 (65535 ∶ pos 1 ∷ [])) 42 Key 0 "refused 5 0\n" ∷
     refusal-row (encode 1 1 1 1 1 (0 ∶ pos 10001 ∷ [])) 42 Value 0 "refused 6 0\n" ∷
     refusal-row (encode 1 1 1 1 1 (0 ∶ neg 10001 ∷ [])) 42 Value 0 "refused 6 0\n" ∷
@@ -186,6 +187,7 @@ ends-hold =
     and (refl, refl, refl, refl)
     and (refl, refl, refl, refl)
     and (refl, refl, refl, refl)
+    and (refl, refl, refl, refl)
     and tt
 
 -- signed numbers of four bytes: the bytes of 0, 2^31 − 1, 2^31 and 2^32 − 1
@@ -211,7 +213,7 @@ unfolding headerLength
 sheet-length e = omega arith
 
 -- T2.6, the length of the longest sheet
-pub longest : sheetLength (mostEntries largest) ≡ 3756
+pub longest : sheetLength (mostEntries largest) ≡ 3852
 unfolding headerLength
 longest = refl
 
@@ -225,6 +227,7 @@ kinds-found Kind.Least past = (refl, refl)
 kinds-found Kind.Most past = (refl, refl)
 kinds-found Kind.Coefficient past = (refl, refl)
 kinds-found Kind.Rhs past = (refl, refl)
+kinds-found Kind.Start past = (refl, refl)
 
 -- T6.2, the length of a record: 22 bytes, 4 for each material, and 12 for each limit
 pub record-length : (n m : ℕ) → recordLength n m ≡ 22 + 4 * n + 12 * m

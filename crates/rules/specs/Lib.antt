@@ -18,6 +18,7 @@
 -- The rest holds these definitions against worked sheets:
 --   Rows       how a table of sheets is written
 --   Marked     C1 to C10
+--   Started    S1 to S9: sheets with starts
 --   Examples   the examples of the refusals, their order, the ends of the ranges, and steps worked by hand
 --   Points     feasible points and points just outside; what T9.3 to T9.7 say in numbers; claims refuted
 -- Signs: `pos n` and `negsuc n` are the integers n and −(n + 1); `+ℤ -ℤ *ℤ` reckon with integers, and `≤ℤ <ℤ` compare
@@ -50,5 +51,6 @@ pub mod Promise
 pub mod Version
 pub mod Rows
 pub mod Marked
+pub mod Started
 pub mod Examples
 pub mod Points

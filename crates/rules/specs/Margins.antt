@@ -22,13 +22,15 @@ pub record PlanMargins (P : Problem) (k : ℕ) (low gap : ℤ) : Type 0 where
   pub excess : (d : ℤ) (y : ℕ → ℤ) → Feasible P d y →
       (d *ℤ (pos (P .scale) *ℤ costOf P (at (planAfter P k .sums))) -ℤ pos k *ℤ (pos (P .scale) *ℤ costOf P y))
       ≤ℤ (d *ℤ gap)
-  -- T9.5, for each limit i: p·residual total ≤ closing multiplier
+  -- T9.5, for each limit i: p·residual total ≤ closing multiplier − starting multiplier
   pub residualTotals : (i : ℕ) → i < P .limits →
-      (pos (P .numerator) *ℤ at (planAfter P k .residualTotals) i) ≤ℤ at (planAfter P k .multipliers) i
-  -- T9.6: 2·p·gap + Σ_i (closing multiplier)² ≤ p²·Σ_t Σ_i residual², over steps 0 to k−1
+      (pos (P .numerator) *ℤ at (planAfter P k .residualTotals) i)
+      ≤ℤ (at (planAfter P k .multipliers) i -ℤ P .startingMultiplier i)
+  -- T9.6: 2·p·gap + Σ_i (closing multiplier)² ≤ Σ_i (starting multiplier)² + p²·Σ_t Σ_i residual², over steps 0 to k−1
   pub squares :
       (pos 2 *ℤ pos (P .numerator) *ℤ gap +ℤ sumTo (P .limits) (λ i. square (at (planAfter P k .multipliers) i)))
-      ≤ℤ (square (pos (P .numerator))
+      ≤ℤ (sumTo (P .limits) (λ i. square (P .startingMultiplier i))
+      +ℤ square (pos (P .numerator))
       *ℤ sumTo k (λ t. sumTo (P .limits) (λ i. square (at (lookAfter P t .residuals) i))))
 
 -- A plan has its margins; and T9.7: where the answer is refusal 9 ("no blend"), at whatever step, there is no feasible

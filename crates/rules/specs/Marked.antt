@@ -14,7 +14,7 @@ use Rattle.rules.specs.Run.{stateAfter, lookAfter}
 use Rattle.rules.specs.Listing.{text}
 use Rattle.rules.specs.Rows.{Entry, _∶_, sized, entered, encode, hex, Row, Holds, AllHold, _and_}
 
-abbrev entries-C1 : List Entry
+abbrev pub entries-C1 : List Entry
 entries-C1 = 0 ∶ pos 3 ∷ 1 ∶ pos 1 ∷ 128 ∶ pos 10 ∷ 129 ∶ pos 10 ∷ 192 ∶ neg 2 ∷ 193 ∶ neg 1 ∷ 194 ∶ neg 12 ∷ []
 
 -- T11.1 goes through its steps
@@ -37,7 +37,7 @@ C2 = record {
   listing = text "steps 1\nmat 0 0\nmat 1 0\nlim 0 12 12\nlow 0\ngap 0\n";
 }
 
-abbrev entries-C3 : List Entry
+abbrev pub entries-C3 : List Entry
 entries-C3 = 0 ∶ pos 1 ∷ 128 ∶ pos 1 ∷ 192 ∶ neg 1 ∷ 193 ∶ neg 5 ∷ []
 
 -- refused 9 at 1: the dual value is 21, the greatest cost 1

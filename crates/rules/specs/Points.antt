@@ -18,6 +18,7 @@ use Rattle.rules.specs.Answers.{plan, refused, answer}
 use Rattle.rules.specs.Margins.{square, PlanMargins, Margins}
 use Rattle.rules.specs.Rows.{_∶_, encode, Holds}
 use Rattle.rules.specs.Marked.{C1, C2, C3, C7, C9}
+use Rattle.rules.specs.Started.{S7}
 
 -- the problem of a sheet's bytes
 abbrev pub fromSheet : List ℕ → Problem
@@ -194,7 +195,7 @@ module _ (P : Problem) (k : ℕ) where
   residual-left = pos (P .numerator) *ℤ at (planAfter P k .residualTotals) 0
 
   abbrev pub residual-right : ℤ
-  residual-right = at (planAfter P k .multipliers) 0
+  residual-right = at (planAfter P k .multipliers) 0 -ℤ P .startingMultiplier 0
 
   abbrev pub squares-left : ℤ → ℤ
   squares-left gap =
@@ -202,7 +203,8 @@ module _ (P : Problem) (k : ℕ) where
 
   abbrev pub squares-right : ℤ
   squares-right =
-      square (pos (P .numerator)) *ℤ sumTo k (λ t. sumTo (P .limits) (λ i. square (at (lookAfter P t .residuals) i)))
+      sumTo (P .limits) (λ i. square (P .startingMultiplier i))
+      +ℤ square (pos (P .numerator)) *ℤ sumTo k (λ t. sumTo (P .limits) (λ i. square (at (lookAfter P t .residuals) i)))
 
 -- of every problem with a limit, the residual claim says this of its two sides
 pub residual-says : (P : Problem) (k : ℕ) (low gap : ℤ) → 0 < P .limits → PlanMargins P k low gap
@@ -277,6 +279,47 @@ P₅ = fromSheet (encode 1 1 4 1 1 (0 ∶ pos 1 ∷ 128 ∶ pos 1 ∷ 192 ∶ ne
 pub margins-hold-P₅ : NoneFeasible P₅ → (low : ℤ) → PlanMargins P₅ 1 low (pos 0)
 unfolding Holds
 margins-hold-P₅ none low = record {
+  lower = λ d y f. absurd (none d y f);
+  excess = λ d y f. absurd (none d y f);
+  residualTotals = below-one _ (leZ-yes tt);
+  squares = leZ-yes tt;
+}
+
+-- ---- With starts: S7, with gap 12. The residual claim is 4·(−1) ≤ 8 − 12, and the squares claim
+-- 2·4·12 + 8² ≤ 12² + 4²·(−1)²: 160 on both sides
+abbrev pub P₆ : Problem
+P₆ = fromSheet (S7 .sheet)
+
+pub residual-sides-P₆ : (residual-left P₆ 1 ≡ neg 4) × (residual-right P₆ 1 ≡ neg 4)
+unfolding Holds
+residual-sides-P₆ = (refl, refl)
+
+-- the squares claim, of every gap: 2·4·gap + 8² ≤ 12² + 4²·1²
+pub squares-say-P₆ : (low gap : ℤ) → PlanMargins P₆ 1 low gap → (pos 8 *ℤ gap +ℤ pos 64) ≤ℤ pos 160
+unfolding Holds
+squares-say-P₆ low gap claim = claim .squares
+
+-- with one less on the larger side each is refuted, and so is a gap of 13
+pub residual-P₆ : residual-left P₆ 1 ≤ℤ (residual-right P₆ 1 -ℤ pos 1) → ⊥
+unfolding Holds
+residual-P₆ claim = claim .le
+
+pub squares-P₆ : squares-left P₆ 1 (pos 12) ≤ℤ (squares-right P₆ 1 -ℤ pos 1) → ⊥
+unfolding Holds
+squares-P₆ claim = claim .le
+
+pub gap-13-P₆ : (low : ℤ) → PlanMargins P₆ 1 low (pos 13) → ⊥
+unfolding Holds
+gap-13-P₆ low claim = claim .squares .le
+
+-- P₅ with the start 3: r = 1 − 3; x = 1; g = 5 − 1 = 4; closing M = 3 + 4·4 = 19. There is no feasible point, and with
+-- the gap −12 the other two claims hold by computing: 4·4 ≤ 19 − 3, and 2·4·(−12) + 19² ≤ 3² + 4²·4², 265 on both sides
+abbrev pub P₇ : Problem
+P₇ = fromSheet (encode 1 1 4 1 1 (0 ∶ pos 1 ∷ 128 ∶ pos 1 ∷ 192 ∶ neg 1 ∷ 193 ∶ neg 5 ∷ 194 ∶ pos 3 ∷ []))
+
+pub margins-hold-P₇ : NoneFeasible P₇ → (low : ℤ) → PlanMargins P₇ 1 low (neg 12)
+unfolding Holds
+margins-hold-P₇ none low = record {
   lower = λ d y f. absurd (none d y f);
   excess = λ d y f. absurd (none d y f);
   residualTotals = below-one _ (leZ-yes tt);

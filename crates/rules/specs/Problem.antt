@@ -5,7 +5,8 @@ use lib.IntN.{ℤ, pos, _*ℤ_}
 use lib.Signed.{_≤ℤ_, _<ℤ_}
 use Rattle.rules.specs.Notation.{sumTo}
 
--- T1.2, T1.3: n materials and m limits, the step length p/D (T2.3), and the figures of material j and limit i
+-- T1.2, T1.3: n materials and m limits, the step length p/D (T2.3), the figures of material j and limit i, and where
+-- the method begins (T4.1)
 pub record Problem : Type 0 where
   -- n
   pub materials : ℕ
@@ -25,6 +26,8 @@ pub record Problem : Type 0 where
   pub coefficient : ℕ → ℕ → ℤ
   -- b_i
   pub rhs : ℕ → ℤ
+  -- s_i ("start"), the multiplier of limit i before any step
+  pub startingMultiplier : ℕ → ℤ
 
 module _ (P : Problem) where
   -- T1.4, the cost of amounts x: Σ_j c_j·x_j

@@ -8,7 +8,7 @@ use lib.Signed.{leZ}
 use lib.Dec.{leb, eqb}
 use Rattle.rules.specs.Notation.{neg}
 use Rattle.rules.specs.declared.Kind.{Kind}
-use Rattle.rules.specs.declared.Kind.the-variants.{Cost, Least, Most, Coefficient, Rhs}
+use Rattle.rules.specs.declared.Kind.the-variants.{Cost, Least, Most, Coefficient, Rhs, Start}
 use Rattle.rules.specs.declared.Range.{Range}
 use Rattle.rules.specs.declared.Shape.{Shape}
 use Rattle.rules.specs.declared.Sizes.{Sizes}
@@ -31,6 +31,8 @@ ranges =
     Coefficient from neg 1000 to pos 1000 ∷
     -- row 3 + i, column n: b_i
     Rhs from neg 32000000 to pos 32000000 ∷
+    -- row 3 + i, column n + 1: s_i
+    Start from pos 1 to pos 1073741824 ∷
     []
 
 -- where a kind of figure stands in the table
@@ -40,6 +42,7 @@ indexOf Least = 1
 indexOf Most = 2
 indexOf Coefficient = 3
 indexOf Rhs = 4
+indexOf Start = 5
 
 -- the range of a kind of figure
 unfoldable pub rangeOf : Kind → Range
@@ -50,7 +53,9 @@ unfoldable pub kindAt : Shape → ℕ → ℕ → Kind
 kindAt shape zero column = Cost
 kindAt shape (suc zero) column = Least
 kindAt shape (suc (suc zero)) column = Most
-kindAt shape (suc (suc (suc i))) column = cond (eqb column (shape .materials)) Rhs Coefficient
+kindAt shape (suc (suc (suc i))) column =
+    let n = shape .materials in
+    cond (eqb column n) Rhs (cond (eqb column (n + 1)) Start Coefficient)
 
 -- does a value lie in a range?
 unfoldable pub inRange : Range → ℤ → Bool
@@ -60,9 +65,9 @@ inRange r v = leZ (r .least) v && leZ v (r .greatest)
 unfoldable pub between : ℕ → ℕ → ℕ → Bool
 between least greatest x = leb least x && leb x greatest
 
--- T2.6, the most entries that n and m allow: n(m+3)+m
+-- T2.6, the most entries that n and m allow: n(m+3)+2m
 abbrev pub mostEntries : Shape → ℕ
-mostEntries shape = shape .materials * (shape .limits + 3) + shape .limits
+mostEntries shape = shape .materials * (shape .limits + 3) + 2 * shape .limits
 
 -- T2.6, the largest shape
 abbrev pub largest : Shape

@@ -60,11 +60,11 @@ unfoldable pub firstBelow : ℕ → (ℕ → Option Numbered) → Option Numbere
 firstBelow zero test = none
 firstBelow (suc n) test = firstBelow n test otherwise test n
 
--- T3.2, does no figure stand at a row and a column? Only a limit's row has column n
+-- T3.2, does no figure stand at a row and a column? Only a limit's row has columns n and n + 1
 unfoldable pub noFigureAt : Shape → ℕ → ℕ → Bool
 noFigureAt shape row column =
     let n = shape .materials in
-    ltb (shape .limits + 2) row || ltb n column || (eqb column n && leb row 2)
+    ltb (shape .limits + 2) row || ltb (n + 1) column || (leb n column && leb row 2)
 
 -- T3.2, T3.3: is a value bad under its key, 0 or outside its range?
 unfoldable pub valueBad : Shape → ℕ → ℤ → Bool

@@ -1,10 +1,10 @@
--- TASK.md, T5: the run of k steps from multipliers of 0, and the plan that it gives.
+-- TASK.md, T5: the run of k steps from the starting multipliers, and the plan that it gives.
 use Prim.Native.Nat.{ℕ, zero, suc}
 use mathlib.Core.List.{List}
 use lib.IntN.{ℤ, pos, _-ℤ_, _*ℤ_}
 use Rattle.rules.specs.Notation.{tabulate, at}
 use Rattle.rules.specs.Problem.{Problem, costOf}
-use Rattle.rules.specs.Step.{State, Look, amount, dualValue, lookAt, next}
+use Rattle.rules.specs.Step.{State, Look, lookAt, cheapestCost, next}
 
 -- The figures of a plan, as the record and the listing give them.
 pub record Plan : Type 0 where
@@ -26,18 +26,13 @@ pub record Plan : Type 0 where
   pub residualTotals : List ℤ
 
 module _ (P : Problem) where
-  -- T4.1, multipliers start at 0
-  unfoldable pub startingMultiplier : ℕ → ℤ
-  startingMultiplier i = pos 0
-
-  -- The state before any step. Its lower bound is the dual value of step 0, which step 0 then takes: so the first step
-  -- is like any other.
+  -- The state before any step. T4.1: multipliers begin at the starts. T5.3: low begins at D·cheapest cost.
   unfoldable pub start : State
   start = record {
-    multipliers = tabulate (P .limits) startingMultiplier;
+    multipliers = tabulate (P .limits) (P .startingMultiplier);
     sums = tabulate (P .materials) (λ j. pos 0);
     residualTotals = tabulate (P .limits) (λ i. pos 0);
-    lowerBound = dualValue P startingMultiplier (amount P startingMultiplier);
+    lowerBound = pos (P .scale) *ℤ cheapestCost P;
   }
 
   -- T5.7, the state after t steps, whether or not one of them is refused: `stepRefusal` says where the run ends
@@ -49,7 +44,7 @@ module _ (P : Problem) where
   unfoldable pub lookAfter : ℕ → Look
   lookAfter t = lookAt P (at (stateAfter t .multipliers))
 
-  -- T5.3, low after k steps: the largest of their dual values
+  -- T5.3, low after k steps: the largest of D·cheapest cost and their dual values
   unfoldable pub lowAfter : ℕ → ℤ
   lowAfter k = stateAfter k .lowerBound
 

@@ -97,6 +97,7 @@ problemFrom z T =
       most = λ j. T (keyOf 2 j);
       coefficient = λ i j. T (keyOf (3 + i) j);
       rhs = λ i. T (keyOf (3 + i) n);
+      startingMultiplier = λ i. T (keyOf (3 + i) (n + 1));
     }
 
 -- the problem of a sheet that has been read

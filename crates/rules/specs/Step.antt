@@ -16,7 +16,7 @@ pub record State : Type 0 where
   pub sums : List ℤ
   -- T5.2, G_i ("overshoot")
   pub residualTotals : List ℤ
-  -- T5.3, low: the largest dual value so far
+  -- T5.3, low so far
   pub lowerBound : ℤ
 
 -- What a look at multipliers gives.
@@ -65,7 +65,7 @@ module _ (P : Problem) where
   unfoldable pub greatestCost : ℤ
   greatestCost = costOf P (λ j. cond (ltZ (pos 0) (P .cost j)) (P .most j) (P .least j))
 
-  -- No rule: the cheapest cost within the bounds, u_j where c_j < 0, else l_j. The code lets low begin with D times it.
+  -- T5.3, the cheapest cost within the bounds: u_j where c_j < 0, else l_j
   unfoldable pub cheapestCost : ℤ
   cheapestCost = costOf P (λ j. cond (ltZ (P .cost j) (pos 0)) (P .most j) (P .least j))
 

@@ -54,6 +54,7 @@ pub enum Kind {
     Most,
     Coefficient,
     Rhs,
+    Start,
 }
 
 // A row of the table of ranges: a kind of figure, its least and its greatest value.

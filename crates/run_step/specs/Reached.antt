@@ -1,20 +1,26 @@
--- A state that steps lead to, and what a step asks of it.
+-- What a run asks of the figures; a state that its steps lead to, and what a step asks of it.
 use mathlib.Core.Path.{_≡_}
 use mathlib.Core.List.{List}
 use mathlib.Core.Option.{none}
 use Prim.Native.Nat.{ℕ, _≤_, _<_}
 use lib.IntN.{ℤ, pos, _*ℤ_}
+use Rattle.rules.specs.Notation.{tabulate, at}
 use Rattle.rules.specs.Step.{greatestCost}
 use Rattle.rules.specs.Run.{stateAfter}
 use Rattle.rules.specs.Answers.{stepRefusal}
 use Rattle.proof_magnitudes.specs.Accepted.{Accepted}
 use Rattle.sheet_figures.specs.declared.Figures.{Figures}
 use Rattle.sheet_figures.specs.Figures.{problemOf}
+use Rattle.sheet_figures.specs.Padded.{padded}
 use Rattle.run_step.specs.declared.State.{State}
 use Rattle.run_step.specs.States.{stateIn}
 
--- the figures, with the coefficients in a, are those of an accepted sheet, and k steps of its run, of which none is
--- refused, lead to the state w
+-- the figures, with the coefficients in a, are those of an accepted sheet, and no start stands past those of its limits
+pub record FiguresReady (f : Figures) (a : List ℤ) : Type 0 where
+  pub accepted : Accepted (problemOf f a) (f .steps)
+  pub starts : f .start ≡ padded 16 (tabulate (f .limits) (at (f .start)))
+
+-- the figures are those of an accepted sheet, and k steps of its run, of which none is refused, lead to the state w
 pub record Reached (f : Figures) (a : List ℤ) (k : ℕ) (w : State) : Type 0 where
   pub accepted : Accepted (problemOf f a) (f .steps)
   pub few : k ≤ f .steps

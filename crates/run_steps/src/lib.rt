@@ -1,7 +1,7 @@
 // The run: k steps from the start, or refusals 9 and 10.
 ghost use Rattle.rules.specs.Answers.{stepRefusal};
-ghost use Rattle.proof_magnitudes.specs.Accepted.{Accepted};
 ghost use Rattle.sheet_figures.specs.Figures.{problemOf};
+ghost use Rattle.run_step.specs.Reached.{FiguresReady};
 ghost use Rattle.run_step.specs.States.{AfterSteps};
 use rules::Verdict;
 use run_costs::cheapest_value;
@@ -10,19 +10,20 @@ use run_step::State;
 use run_step::Stepped;
 use sheet_figures::Figures;
 
-// k steps from multipliers of 0, where low is D times the cheapest cost.
+// k steps from the starting multipliers, where low is D times the cheapest cost.
 pub fn run(f: Figures, coefficient: &[i16; 512]) -> Stepped
-    requires { ⌜ Accepted (problemOf f (now coefficient)) (f .steps) ⌝ }
+    requires { ⌜ FiguresReady f (now coefficient) ⌝ }
     ensures { λ r. ⌜ AfterSteps (problemOf f (now (coefficient .entry))) (f .steps)
         (stepRefusal (problemOf f (now (coefficient .entry))) (f .steps)) r ⌝ }
 {
     let k = f.steps;
     let greatest = greatest_value(f.materials, f.scale, &f.cost, &f.least, &f.most);
     let low = cheapest_value(f.materials, f.scale, &f.cost, &f.least, &f.most);
+    let starts = f.start;
     let mut r = Stepped {
         stop: Verdict::Passed,
         state: State {
-            multipliers: [0; 16],
+            multipliers: starts,
             sums: [0; 32],
             totals: [0; 16],
             low: low,

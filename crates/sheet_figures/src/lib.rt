@@ -21,4 +21,6 @@ pub struct Figures {
     pub most: [i16; 32],
     // b_i at place i
     pub rhs: [i32; 16],
+    // the starting multiplier s_i at place i
+    pub start: [i32; 16],
 }

@@ -3,7 +3,7 @@ use Prim.Native.Nat.{ℕ, suc, _+_, _-_, _≤_, _<_}
 use mathlib.Core.Path.{_≡_}
 use mathlib.Core.Bool.{_||_, and-true, and-false, or-false}
 use native.Mathlib.Omega.{arith}
-use lib.Dec.{ltb, eqb}
+use lib.Dec.{ltb, leb}
 use Rattle.rules.specs.declared.Shape.{Shape}
 use borrow.Author.Tests.{lt-ltb, le-ltb, le-leb, lt-leb}
 use Rattle.rules.specs.Ranges.{kindAt}
@@ -20,13 +20,13 @@ module _ (shape : Shape) (row column : ℕ) where
 
   -- rows 0 to 2 end before column n
   pub material-row : row ≤ 2
-      → unless 5 (ltb n column || eqb column n) (gives (kindAt shape row column)) ≡ meaningAt shape row column
+      → unless 5 (ltb (n + 1) column || leb n column) (gives (kindAt shape row column)) ≡ meaningAt shape row column
   unfolding meaningAt noFigureAt
   material-row h = rw (le-ltb (m + 2) row (omega arith), le-leb row 2 h, and-true)
 
-  -- the row of a limit ends after column n
+  -- the row of a limit ends after column n + 1
   pub limit-row : 3 ≤ row → row ≤ m + 2
-      → unless 5 (ltb n column) (gives (kindAt shape 3 column)) ≡ meaningAt shape row column
+      → unless 5 (ltb (n + 1) column) (gives (kindAt shape 3 column)) ≡ meaningAt shape row column
   unfolding meaningAt noFigureAt kindAt
   limit-row h k =
       -- `kindAt` counts rows by successors

@@ -1,7 +1,8 @@
 // What a row and a column of a sheet mean: a figure of a kind, or nothing.
 ghost use mathlib.Core.Path.{_≡_};
 ghost use mathlib.Core.Bool.{_||_};
-ghost use lib.Dec.{ltb, eqb};
+ghost use Prim.Native.Nat.{_+_};
+ghost use lib.Dec.{ltb, leb};
 ghost use Rattle.rules.specs.Ranges.{kindAt};
 ghost use Rattle.sheet_kinds.specs.Meaning.{FewLimits, meaningOf, meaningAt};
 ghost use Rattle.proof_laws.specs.Read.{gives, unless};
@@ -17,7 +18,7 @@ pub enum Meaning {
 // A figure of a material stands in the columns below n.
 fn of_material(kind: Kind, shape: Shape, column: usize) -> Meaning
     ensures { λ r. ⌜ meaningOf r
-        ≡ unless 5 (ltb (shape .materials) column || eqb column (shape .materials)) (gives kind) ⌝ }
+        ≡ unless 5 (ltb (shape .materials + 1) column || leb (shape .materials) column) (gives kind) ⌝ }
 {
     let n = shape.materials;
     if n <= column {
@@ -27,18 +28,21 @@ fn of_material(kind: Kind, shape: Shape, column: usize) -> Meaning
     }
 }
 
-// In a limit's row, its coefficients stand in the columns below n, and its right-hand side in column n.
+// In a limit's row, its coefficients stand in the columns below n, its right-hand side in column n, and its start in the
+// next.
 fn of_limit(shape: Shape, column: usize) -> Meaning
-    ensures { λ r. ⌜ meaningOf r ≡ unless 5 (ltb (shape .materials) column) (gives (kindAt shape 3 column)) ⌝ }
+    ensures { λ r. ⌜ meaningOf r ≡ unless 5 (ltb (shape .materials + 1) column) (gives (kindAt shape 3 column)) ⌝ }
 {
     let n = shape.materials;
     if column < n {
         return Meaning::Figure(Kind::Coefficient);
     }
-    if column == n {
-        return Meaning::Figure(Kind::Rhs);
+    let past = column - n;
+    match past {
+        0 => Meaning::Figure(Kind::Rhs),
+        1 => Meaning::Figure(Kind::Start),
+        _ => Meaning::Nothing,
     }
-    Meaning::Nothing
 }
 
 // What stands at a row and a column (T3.2).

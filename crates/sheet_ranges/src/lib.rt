@@ -6,7 +6,7 @@ use rules::Kind;
 use rules::Range;
 
 // The table, in the order of T3.2.
-const RANGES: [Range; 5] = [
+const RANGES: [Range; 6] = [
     // row 0: cost
     Range {
         kind: Kind::Cost,
@@ -37,11 +37,17 @@ const RANGES: [Range; 5] = [
         least: -32000000,
         greatest: 32000000,
     },
+    // the rows of the limits, column n + 1: start
+    Range {
+        kind: Kind::Start,
+        least: 1,
+        greatest: 1073741824,
+    },
 ];
 
 // Where a kind of figure stands in the table.
 fn index_of(kind: Kind) -> usize
-    ensures { λ r. ⌜ (r ≡ indexOf kind) × (r < 5) ⌝ }
+    ensures { λ r. ⌜ (r ≡ indexOf kind) × (r < 6) ⌝ }
 {
     match kind {
         Kind::Cost => 0,
@@ -49,6 +55,7 @@ fn index_of(kind: Kind) -> usize
         Kind::Most => 2,
         Kind::Coefficient => 3,
         Kind::Rhs => 4,
+        Kind::Start => 5,
     }
 }
 

@@ -38,6 +38,7 @@ fn no_figures() -> Figures
         least: [0; 32],
         most: [0; 32],
         rhs: [0; 16],
+        start: [0; 16],
     }
 }
 

@@ -18,7 +18,7 @@ pub fn dimensions_in_range(shape: Shape, e: usize) -> bool
     let n = shape.materials;
     let m = shape.limits;
     if between(1, 32, n) & between(0, 16, m) {
-        return e <= n * (m + 3) + m;
+        return e <= n * (m + 3) + 2 * m;
     }
     false
 }

@@ -1,5 +1,5 @@
 -- The table of figures by key in an array: 19 rows of 34 columns. Every key that names a figure has a place in it:
--- 3 rows of materials and 16 of limits; 32 columns of materials, that of b, and one that is free.
+-- 3 rows of materials and 16 of limits; 32 columns of materials, that of b, and that of the starts.
 use mathlib.Core.Path.{_≡_, refl, ap, _∙_}
 use mathlib.Core.Bool.{false, cond}
 use mathlib.Core.List.{List}
@@ -95,7 +95,7 @@ table-agrees z T narrow few =
     let n = z .shape .materials in
     let of-material : (row : ℕ) → row ≤ 2 → (j : ℕ) → j < n → InTable row j =
     λ row r j l. record { row-in = omega arith; column-in = omega arith } in
-    let of-limit : (column : ℕ) → column ≤ n → (i : ℕ) → i < z .shape .limits → InTable (3 + i) column =
+    let of-limit : (column : ℕ) → column ≤ n + 1 → (i : ℕ) → i < z .shape .limits → InTable (3 + i) column =
     λ column c i l. record { row-in = omega arith; column-in = omega arith } in
     record {
       materials = refl;
@@ -107,4 +107,5 @@ table-agrees z T narrow few =
       most = λ j l. same-figure (of-material 2 (omega arith) j l) T;
       coefficient = λ i j h l. same-figure (of-limit j (omega arith) i h) T;
       rhs = λ i h. same-figure (of-limit n (omega arith) i h) T;
+      startingMultiplier = λ i h. same-figure (of-limit (n + 1) (omega arith) i h) T;
     }

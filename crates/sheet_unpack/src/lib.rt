@@ -65,11 +65,13 @@ pub fn unpack(sizes: Sizes, table: &[i32; 646], coefficient: &mut [i16; 512]) ->
     let mut l: [i16; 32] = [0; 32];
     let mut u: [i16; 32] = [0; 32];
     let mut b: [i32; 16] = [0; 16];
+    let mut s: [i32; 16] = [0; 16];
     take_row(table, 0, n, &mut c, 0);
     take_row(table, 1, n, &mut l, 0);
     take_row(table, 2, n, &mut u, 0);
     take_rows(table, n, m, coefficient);
     take_column(table, n, m, &mut b);
+    take_column(table, n + 1, m, &mut s);
     Figures {
         materials: n,
         limits: m,
@@ -80,5 +82,6 @@ pub fn unpack(sizes: Sizes, table: &[i32; 646], coefficient: &mut [i16; 512]) ->
         least: l,
         most: u,
         rhs: b,
+        start: s,
     }
 }

@@ -11,7 +11,7 @@ use Rattle.rules.specs.Refusals.{refusalOf, layoutRefusal}
 use Rattle.sheet_figures.specs.Figures.{figuresOf, coefficientsOver}
 use Rattle.sheet_read.specs.Reading.{figuresUnless, coefficientsUnless}
 use Rattle.planner.proofs.Ending.{ends-refused, ends-same, promised}
-use Rattle.planner.proofs.Sheets.{figures-accepted, plan-is, refusal-is, layout-refused}
+use Rattle.planner.proofs.Sheets.{figures-ready, plan-is, refusal-is, layout-refused}
 use Rattle.planner.proofs.plan.Statement.{statement}
 use Rattle.planner.proofs.plan.Tie as tie
 
@@ -62,7 +62,7 @@ module _ (c : tie.After-enum-told) where
 plan-figures-requires : tie.Need-plan-figures-requires
 plan-figures-requires c κs =
     let r = c .before .before in
-    figures-accepted (sheet r) (accepted r) (figures-are r) zeros (length-replicate 512 (pos 0)) (coefficients-are r)
+    figures-ready (sheet r) (accepted r) (figures-are r) zeros (length-replicate 512 (pos 0)) (coefficients-are r)
 
 returns-2 : tie.Need-returns-2
 returns-2 c =

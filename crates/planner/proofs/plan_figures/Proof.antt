@@ -24,7 +24,7 @@ returns c =
 plan-run-requires : tie.Need-plan-run-requires
 plan-run-requires c κs =
     let read = c .before .before in
-    record { accepted = read .before .before .pre; room = rw (read .record-length .ensures) at (c .before .if1 .left) }
+    record { figures = read .before .before .pre; room = rw (read .record-length .ensures) at (c .before .if1 .left) }
 
 returns-2 : tie.Need-returns-2
 unfolding planRefusal

@@ -37,7 +37,7 @@ module _ (c : tie.After-enum-told) where
   reached =
       let f = s .args .f in
       record {
-        accepted = s .pre .accepted;
+        accepted = s .pre .figures .accepted;
         few = le-refl _;
         going = going;
         state =

@@ -8,10 +8,9 @@ use mir.Facts.{toZ-ofZ}
 use borrow.Author.Needs.{needs}
 use Rattle.rules.specs.Problem.{costOf}
 use Rattle.rules.specs.Step.{greatestCost, cheapestCost}
-use Rattle.rules.specs.Run.{startingMultiplier, start, stateAfter}
+use Rattle.rules.specs.Run.{start, stateAfter}
 use Rattle.rules.specs.Answers.{stepRefusal}
 use Rattle.proof_laws.specs.FirstPlace.{first-start}
-use Rattle.proof_magnitudes.specs.Opening.{opening-low}
 use Rattle.sheet_figures.specs.Padded.{padded-zero}
 use Rattle.sheet_figures.specs.Figures.{problemOf}
 use Rattle.rules.specs.declared.Verdict.the-variants.{Passed}
@@ -45,36 +44,39 @@ at-greatest c = at-costs-2 c .before .before
 greatest-value-requires : tie.Need-greatest-value-requires Inv-loop μ-loop
 greatest-value-requires c κs =
     let s = s-greatest c in
-    greatest-fits (s .args .t1) (s .args .coefficient .now) (s .pre)
+    greatest-fits (s .args .t1) (s .args .coefficient .now) (s .pre .accepted)
 
 cheapest-value-requires : tie.Need-cheapest-value-requires Inv-loop μ-loop
 cheapest-value-requires c κs =
     let s = s-greatest (at-greatest c .before) in
-    cheapest-fits (s .args .t1) (s .args .coefficient .now) (s .pre)
+    cheapest-fits (s .args .t1) (s .args .coefficient .now) (s .pre .accepted)
 
--- with the cheapest cost found
-module _ (c : tie.After-cheapest-value Inv-loop μ-loop) where
+-- with the cheapest cost found, and the starts copied
+module _ (c : tie.After-starts Inv-loop μ-loop) where
+  abbrev at-cheapest : tie.After-cheapest-value Inv-loop μ-loop
+  at-cheapest = c .before
+
   abbrev found : tie.After-greatest-value Inv-loop μ-loop
-  found = at-greatest (c .before)
+  found = at-greatest (at-cheapest .before)
 
   abbrev s : tie.Start Inv-loop μ-loop
   s = s-greatest (found .before)
 
--- every multiplier and total is 0, and low is D times the cheapest cost, which is the dual value at multipliers of 0
+-- the multipliers are the starts, every total is 0, and low is D times the cheapest cost
 loop-holds : tie.Need-loop-holds Inv-loop μ-loop
-unfolding stepRefusal stateIn stateAfter start startingMultiplier cheapestCost costOf
+unfolding stepRefusal stateIn stateAfter start cheapestCost costOf
 loop-holds c =
     let f = s c .args .t1 in
-    let a = s c .args .coefficient .now in
-    let fits : SFits w64 (c .cheapest-value .result) = search needs in
-    let low = toZ-ofZ fits ∙ c .cheapest-value .ensures ∙ sym (opening-low (problemOf f a) (s c .pre .scale-some)) in (
+    let cheapest = at-cheapest c .cheapest-value in
+    let fits : SFits w64 (cheapest .result) = search needs in
+    let low = toZ-ofZ fits ∙ cheapest .ensures in (
       refl,
       record {
-        accepted = s c .pre;
+        accepted = s c .pre .accepted;
         few = zero-le;
         going = first-start _;
         state = λ k. record {
-          multipliers = sym (padded-zero 16 (f .limits)) k;
+          multipliers = s c .pre .starts k;
           sums = sym (padded-zero 32 (f .materials)) k;
           totals = sym (padded-zero 16 (f .limits)) k;
           low = low k;

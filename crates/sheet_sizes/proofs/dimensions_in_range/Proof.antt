@@ -33,6 +33,9 @@ add-result c = omega (arith, few (asked c) (passed c))
 mul-result : tie.Need-mul-result
 mul-result c = omega (arith, few (asked c) (passed c))
 
+mul-result-2 : tie.Need-mul-result-2
+mul-result-2 c = omega (arith, few (asked c) (passed c))
+
 add-result-2 : tie.Need-add-result-2
 add-result-2 c = omega (arith, few (asked c) (passed c))
 
@@ -54,6 +57,7 @@ dimensions-in-range-spec =
     (search needs)
     add-result
     mul-result
+    mul-result-2
     add-result-2
     returns
     returns-2)

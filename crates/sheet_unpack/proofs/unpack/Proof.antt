@@ -59,6 +59,9 @@ module _ (s : tie.Start) where
   }
 
 -- ---- the stages, each where a call has stored its figures, from the last to the first
+abbrev at-rows : tie.After-take-column → tie.After-take-rows
+at-rows c = c .before .before
+
 abbrev at-most : tie.After-take-rows → tie.After-take-row3
 at-most c = c .before .before .before
 
@@ -101,10 +104,23 @@ take-column-requires c κs =
     let s = at-start (at-cost (at-least (at-most (c .before)))) in
     record { few = a s .limits-few; column-in = omega (arith, a s .materials-few) }
 
+next-column : tie.Need-add-take-column
+unfolding problemFrom
+next-column c =
+    let s = at-start (at-cost (at-least (at-most (at-rows c)))) in
+    record { fits = omega (arith, a s .materials-few) }
+
+take-column-requires-2 : tie.Need-take-column-requires-2
+unfolding problemFrom
+take-column-requires-2 c κs =
+    let s = at-start (at-cost (at-least (at-most (at-rows (c .before))))) in
+    record { few = a s .limits-few; column-in = omega (arith, a s .materials-few) }
+
 returns : tie.Need-returns
 unfolding problemFrom figuresOf coefficientsOver array
 returns c =
-    let rows = c .before .before in
+    let column = c .before .before in
+    let rows = at-rows column in
     let most = at-most rows in
     let least = at-least most in
     let cost = at-cost least in
@@ -118,7 +134,8 @@ returns c =
         cost = cost .take-row .ensures i;
         least = least .take-row2 .ensures i;
         most = most .take-row3 .ensures i;
-        rhs = c .take-column .ensures i;
+        rhs = column .take-column .ensures i;
+        start = c .take-column2 .ensures i;
       }),
       rows .take-rows .ensures,
     )
@@ -135,4 +152,6 @@ unpack-spec =
     take-row-requires-3
     take-rows-requires
     take-column-requires
+    next-column
+    take-column-requires-2
     returns)
