@@ -18,8 +18,8 @@ static unsigned size_at(const uint8_t *bytes)
     return bytes[0] + 256u * bytes[1];
 }
 
-/* A number of 4 bytes, little-endian. The sums of a record are never negative. */
-static uint32_t sum_at(const uint8_t *bytes)
+/* A number of 4 bytes, little-endian. The sums and the multipliers of a record are never negative. */
+static uint32_t figure_at(const uint8_t *bytes)
 {
     return bytes[0] | (uint32_t)bytes[1] << 8 | (uint32_t)bytes[2] << 16 | (uint32_t)bytes[3] << 24;
 }
@@ -38,17 +38,20 @@ static int read_sheet(const char *name, uint8_t *sheet, size_t room, size_t *len
     return good;
 }
 
-/* Prints low, gap, and each material's sum out of the record. What low and gap mean depends on the sheet's scale D. */
+/* Prints low, gap, and out of the record each material's sum and each limit's multiplier. What low and gap mean depends
+ * on the sheet's scale D. */
 static void print_plan(int64_t low, int64_t gap, unsigned scale, const uint8_t *record)
 {
-    unsigned materials = size_at(record), steps = size_at(record + 4), j;
+    unsigned materials = size_at(record), limits = size_at(record + 2), steps = size_at(record + 4), i, j;
     printf("low %" PRId64 ": no feasible recipe costs less than %.3f\n", low, (double)low / scale);
     printf("gap %" PRId64 ": the average costs at most %.3f more than any feasible recipe\n", gap,
            (double)gap / steps / scale);
     for (j = 0; j < materials; j++) {
-        uint32_t sum = sum_at(record + 22 + 4 * j);
+        uint32_t sum = figure_at(record + 22 + 4 * j);
         printf("material %u: sum %" PRIu32 ", averaged amount %.3f\n", j, sum, (double)sum / steps);
     }
+    for (i = 0; i < limits; i++)
+        printf("limit %u: next week's start %" PRIu32 "\n", i, figure_at(record + 22 + 4 * materials + 4 * i));
 }
 
 int main(int count, char **arguments)

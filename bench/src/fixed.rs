@@ -10,6 +10,7 @@ struct Figures {
     most: [i16; 32],
     a: [[i16; 32]; 16],
     b: [i32; 16],
+    start: [i32; 16],
 }
 
 struct State {
@@ -27,7 +28,8 @@ fn dot(x: &[i16], y: &[i16]) -> i32 {
 impl Figures {
     fn new(size: Sizes) -> Figures {
         let none = [0; 32];
-        Figures { size, cost: none, least: none, most: none, a: [none; 16], b: [0; 16] }
+        let (a, b, start) = ([none; 16], [0; 16], [0; 16]);
+        Figures { size, cost: none, least: none, most: none, a, b, start }
     }
 
     fn store(&mut self, Entry { row, column, value }: Entry) {
@@ -36,19 +38,21 @@ impl Figures {
             1 => self.least[column] = value as i16,
             2 => self.most[column] = value as i16,
             _ if column < self.size.n => self.a[row - 3][column] = value as i16,
-            _ => self.b[row - 3] = value,
+            _ if column == self.size.n => self.b[row - 3] = value,
+            _ => self.start[row - 3] = value,
         }
     }
 
+    fn cost_of(&self, amount: impl Fn(usize) -> i16) -> i64 {
+        self.size.d * i64::from(dot(&self.cost, &std::array::from_fn::<i16, 32, _>(amount)))
+    }
+
     fn dearest(&self) -> i64 {
-        let ends = |j: usize| {
-            if self.cost[j] > 0 {
-                self.most[j]
-            } else {
-                self.least[j]
-            }
-        };
-        self.size.d * i64::from(dot(&self.cost, &std::array::from_fn::<i16, 32, _>(ends)))
+        self.cost_of(|j| if self.cost[j] > 0 { self.most[j] } else { self.least[j] })
+    }
+
+    fn cheapest(&self) -> i64 {
+        self.cost_of(|j| if self.cost[j] > 0 { self.least[j] } else { self.most[j] })
     }
 
     fn amounts(&self, multipliers: &[i64; 16]) -> [i16; 32] {
@@ -97,8 +101,8 @@ impl State {
 }
 
 fn walk(f: &Figures) -> Result<State, Refusal> {
-    let mut state =
-        State { multipliers: [0; 16], sums: [0; 32], overshoots: [0; 16], low: i64::MIN };
+    let multipliers = f.start.map(i64::from);
+    let mut state = State { multipliers, sums: [0; 32], overshoots: [0; 16], low: f.cheapest() };
     let dearest = f.dearest();
     for t in 0..f.size.k {
         state.step(f, dearest, t)?;

@@ -36,7 +36,7 @@ fn read_sizes(sheet: &[u8]) -> Result<(Sizes, usize), Refusal> {
     }
     let [n, m, e, p, d, k] =
         [0, 2, 4, 6, 8, 10].map(|at| usize::from(u16::from_le_bytes([sheet[at], sheet[at + 1]])));
-    if !(1..=32).contains(&n) || m > 16 || e > n * (m + 3) + m {
+    if !(1..=32).contains(&n) || m > 16 || e > n * (m + 3) + 2 * m {
         return Err(refuse(Cause::Dimensions, 0));
     }
     if sheet.len() != 12 + 6 * e {
@@ -53,7 +53,7 @@ fn check_keys(size: &Sizes, keys: impl Iterator<Item = usize>) -> Result<(), Ref
     let mut floor = 0;
     for (i, key) in keys.enumerate() {
         let (row, column) = (key / 64, key % 64);
-        let named = row <= size.m + 2 && column <= size.n && (column < size.n || row > 2);
+        let named = row <= size.m + 2 && column <= size.n + 1 && (column < size.n || row > 2);
         if key < floor || !named {
             return Err(refuse(Cause::Key, i));
         }
@@ -67,7 +67,8 @@ fn in_range(n: usize, entry: Entry) -> bool {
         0 => -10_000..=10_000,
         1 | 2 => 1..=1_000,
         _ if entry.column < n => -1_000..=1_000,
-        _ => -32_000_000..=32_000_000,
+        _ if entry.column == n => -32_000_000..=32_000_000,
+        _ => 1..=1_073_741_824,
     };
     entry.value != 0 && range.contains(&entry.value)
 }

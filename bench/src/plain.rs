@@ -11,6 +11,7 @@ struct Figures {
     // a of limit i and material j stands at i * n + j
     a: Vec<i64>,
     b: Vec<i64>,
+    start: Vec<i64>,
 }
 
 struct State {
@@ -33,6 +34,7 @@ impl Figures {
             most: vec![0; n],
             a: vec![0; m * n],
             b: vec![0; m],
+            start: vec![0; m],
         }
     }
 
@@ -43,7 +45,8 @@ impl Figures {
             1 => &mut self.least[column],
             2 => &mut self.most[column],
             _ if column < n => &mut self.a[(row - 3) * n + column],
-            _ => &mut self.b[row - 3],
+            _ if column == n => &mut self.b[row - 3],
+            _ => &mut self.start[row - 3],
         };
         *place = i64::from(value);
     }
@@ -56,15 +59,25 @@ impl Figures {
         }
         self.size.d * cost
     }
+
+    fn cheapest(&self) -> i64 {
+        let mut cost = 0;
+        for j in 0..self.size.n {
+            let end = if self.cost[j] > 0 { self.least[j] } else { self.most[j] };
+            cost += self.cost[j] * end;
+        }
+        self.size.d * cost
+    }
 }
 
 impl State {
-    fn new(n: usize, m: usize) -> State {
+    fn new(f: &Figures) -> State {
+        let (n, m) = (f.size.n, f.size.m);
         State {
-            multipliers: vec![0; m],
+            multipliers: f.start.clone(),
             sums: vec![0; n],
             overshoots: vec![0; m],
-            low: i64::MIN,
+            low: f.cheapest(),
             amounts: vec![0; n],
             misses: vec![0; m],
         }
@@ -115,7 +128,7 @@ impl State {
 }
 
 fn walk(f: &Figures) -> Result<State, Refusal> {
-    let mut state = State::new(f.size.n, f.size.m);
+    let mut state = State::new(f);
     let dearest = f.dearest();
     for t in 0..f.size.k {
         state.step(f, dearest, t)?;

@@ -10,7 +10,7 @@ pub struct Sheet {
     pub cost: Vec<i32>,
     pub least: Vec<i32>,
     pub most: Vec<i32>,
-    /// For each limit its a, and its b last.
+    /// For each limit its a, its b and its start.
     pub limits: Vec<Vec<i32>>,
 }
 
@@ -98,7 +98,7 @@ pub fn c7() -> Sheet {
 
 /// C1.
 pub fn c1() -> Sheet {
-    let limits = vec![vec![-2, -1, -12]];
+    let limits = vec![vec![-2, -1, -12, 0]];
     Sheet {
         name: "C1 (n 2, m 1, k 4)",
         p: 1,
@@ -125,6 +125,9 @@ fn random(name: &'static str, seed: u64, n: usize, m: usize, k: u16) -> Sheet {
         let load: i32 = limit.iter().zip(&recipe).map(|(a, amount)| a * amount).sum();
         limit.push(load + generator.between(1, 50));
         limits.push(limit);
+    }
+    for limit in &mut limits {
+        limit.push(generator.between(1, 9_999));
     }
     let (p, d) = (1, 64);
     Sheet { name, p, d, k, cost, least, most, limits }

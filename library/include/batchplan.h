@@ -1,23 +1,29 @@
 /*
  * batchplan: plans a batch sheet.
  *
- * A sheet has n materials with costs and bounds, m limits, a step length p/D and a step count k. Planning it takes k
- * steps of a dual subgradient method in whole numbers, and gives the sums of the amounts, a lower bound on cost (low),
- * a gap, and for each limit the closing multiplier and the residual total. docs/TASK.md states every rule; T7.4 and the
- * like are its anchors.
+ * A sheet has n materials with costs and bounds, m limits with their starting multipliers, a step length p/D and a step
+ * count k. Planning it takes k steps of a dual subgradient method in whole numbers, and gives the sums of the amounts,
+ * a lower bound on cost (low), a gap, and for each limit the closing multiplier and the residual total. docs/TASK.md
+ * states every rule; T7.4 and the like are its anchors.
  *
  * A sheet, lowest byte first, has 12 + 6e bytes (T2):
  *   at 0        the sizes n, m, e, p, D, k, of 2 bytes each, unsigned
  *   at 12       e keys of 2 bytes each, unsigned, rising: row * 64 + column
  *   at 12 + 2e  e values of 4 bytes each, signed, none of them 0, in the order of their keys
- * What has no entry is 0. n is 1 to 32, m 0 to 16, e at most n(m + 3) + m, p and D 1 to 1,024, k 1 to 4,096. The rows
+ * What has no entry is 0. n is 1 to 32, m 0 to 16, e at most n(m + 3) + 2m, p and D 1 to 1,024, k 1 to 4,096. The rows
  * (T3) are
- *   0           column j: the cost of material j,          -10,000 to 10,000
- *   1           column j: its least amount,                1 to 1,000
- *   2           column j: its most amount,                 1 to 1,000
- *   3 + i       column j: a of limit i and material j,     -1,000 to 1,000
- *   3 + i       column n: b of limit i,                    -32,000,000 to 32,000,000
- * and limit i says that the sum of a times amount is at most b.
+ *   0           column j:     the cost of material j,         -10,000 to 10,000
+ *   1           column j:     its least amount,               1 to 1,000
+ *   2           column j:     its most amount,                1 to 1,000
+ *   3 + i       column j:     a of limit i and material j,    -1,000 to 1,000
+ *   3 + i       column n:     b of limit i,                   -32,000,000 to 32,000,000
+ *   3 + i       column n + 1: the start of limit i,           1 to 1,073,741,824
+ * and limit i says that the sum of a times amount is at most b. Its multiplier, kept times D, begins at the start.
+ *
+ * To go on next week where a plan ends: give each limit of the new sheet the closing multiplier of the old record as
+ * its start, and no entry where that is 0. Both are times D, so that the new sheet keeps D, and the units of costs and
+ * limits too. Low and gap hold for any starts, but starts near the limits' prices make the better plan:
+ * examples/glass_next.txt shows by how much.
  *
  * The functions are proved: for every sheet and every buffer, their numbers and every byte that they leave are those of
  * the rules, and they always return. The proofs are about the functions as they are called by the conditions below.
@@ -52,11 +58,14 @@ extern "C" {
 /*
  * The version of the rules that this header is for (T10.5). It goes up by one when an answer, a length or the layout of
  * a record changes. Where batchplan_version() gives another number, the library was not made for this header.
+ *
+ * Version 2 has the starts, and longer sheets with them. A sheet that version 1 reads has no starts, and its answer and
+ * its record are what they were.
  */
-#define BATCHPLAN_VERSION 1
+#define BATCHPLAN_VERSION 2
 
 /* The length of the longest sheet. A longer one is refused. */
-#define BATCHPLAN_SHEET_BYTES 3756
+#define BATCHPLAN_SHEET_BYTES 3852
 
 /* The length of the longest record: a record buffer of this length takes every record, so that 8 never comes. */
 #define BATCHPLAN_RECORD_BYTES 342
@@ -97,7 +106,7 @@ enum {
  *   at 6             low                8 bytes, signed
  *   at 14            gap                8 bytes, signed
  *   at 22            n sums             of 4 bytes each, signed; the averaged amount of a material is its sum / k
- *   at 22 + 4n       m multipliers      of 4 bytes each, signed, D times those of the method
+ *   at 22 + 4n       m multipliers      of 4 bytes each, signed, those after the last step, times D: next week's starts
  *   at 22 + 4n + 4m  m residual totals  of 8 bytes each, signed; the average oversteps a limit by its total / k
  */
 size_t batchplan_plan(const uint8_t *sheet, size_t sheet_bytes, uint8_t *record, size_t record_bytes,

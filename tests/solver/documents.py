@@ -1,10 +1,11 @@
 """What the tests of examples/ and of the documents share: how they run and end, the parts of a document, the figures
-that it states, and the least cost of the glass example."""
+that it states, how good a plan is, and the least cost of the glass examples."""
 import argparse
 import re
 import sys
 from decimal import Decimal
 from fractions import Fraction
+from math import ceil
 
 from planner import dot, read, read_listing
 from programs import BATCHPLAN, ROOT, printed, program_at
@@ -80,18 +81,48 @@ def faults_of_figures(where, text, due):
             return
 
 
-# The cheapest feasible recipe of the glass example, and the prices of its limits that show it.
+def plans_until_kept(program, sheet_of):
+    """Plans, each with its cost, until an average keeps the limits of the first sheet. `sheet_of` gives the sheet with
+    limits that are tighter by some whole numbers: by what the averages before overstep, rounded up."""
+    tighter = [0] * 6
+    for _ in range(6):
+        sheet = sheet_of(tighter)
+        _, got = read_listing(output_of(program, sheet))
+        yield got, Fraction(dot(read(sheet).c, got.sums), got.k)
+        over = [ceil(Fraction(total, got.k)) - less for total, less in zip(got.residual_totals, tighter)]
+        if max(over) <= 0:
+            return
+        tighter = [less + max(0, more) for less, more in zip(tighter, over)]
+    raise RuntimeError(f"after 6 plans a limit is still overstepped; the last is that of the sheet {sheet.hex()}")
+
+
+def measures_of(program, sheet_of, crowns=Fraction(1, 1_000), grams=10):
+    """How good the plan of a sheet is, as the table of docs/SCALING.md says it: low, gap, what is overstepped of the
+    worst limit, and the excess. A unit of cost is so many crowns, and a unit of a limit so many grams."""
+    plans = [*plans_until_kept(program, sheet_of)]
+    (got, _), (_, cost), D = plans[0], plans[-1], read(sheet_of([0] * 6)).D
+    low, gap, over = Fraction(got.low, D), Fraction(got.gap, got.k * D), Fraction(max(0, *got.residual_totals), got.k)
+    return decimal(low * crowns, 2), decimal(gap * crowns, 2), decimal(over * grams), decimal((cost - low) * crowns, 2)
+
+
+# The cheapest feasible recipe of the glass examples.
 RECIPE = [Fraction(509_110, 1_089), Fraction(4_275, 29), Fraction(1_070, 11), 40, 20, 330]
-PRICES = [Fraction(100, 11), 0, Fraction(3_750, 29), 0, Fraction(1_740, 121), 0]
 
 
-def least_cost_of_glass():
-    """The least cost of a feasible recipe of the glass example: the recipe costs that, and the dual value at the prices
+def prices_of_glass(s):
+    """The prices of its limits that show it: those at which sand, soda ash and limestone have no reduced cost."""
+    silica, soda = Fraction(s.c[0], -s.a[0][0]), Fraction(s.c[1], -s.a[2][1])
+    return [silica, 0, soda, 0, (s.c[2] + silica * s.a[0][2]) / -s.a[4][2], 0]
+
+
+def least_cost_of_glass(name="glass"):
+    """The least cost of a feasible recipe of a glass example: the recipe costs that, and the dual value at the prices
     is the same, so that none costs less (T9.3)."""
-    s, _ = example("glass")
-    reduced = [c + dot(PRICES, column) for c, column in zip(s.c, zip(*s.a))]
-    dual = sum(min(r * l, r * u) for r, l, u in zip(reduced, s.l, s.u)) - dot(PRICES, s.b)
+    s, _ = example(name)
+    prices = prices_of_glass(s)
+    reduced = [c + dot(prices, column) for c, column in zip(s.c, zip(*s.a))]
+    dual = sum(min(r * l, r * u) for r, l, u in zip(reduced, s.l, s.u)) - dot(prices, s.b)
     kept = [l <= x <= u for l, x, u in zip(s.l, RECIPE, s.u)] + [dot(a, RECIPE) <= b for a, b in zip(s.a, s.b)]
-    if not all(kept) or min(PRICES) < 0 or dual != dot(s.c, RECIPE):
-        raise RuntimeError("the recipe for glass.txt that tests/solver/documents.py has is not the cheapest")
+    if not all(kept) or min(prices) < 0 or dual != dot(s.c, RECIPE):
+        raise RuntimeError(f"the recipe for {name}.txt that tests/solver/documents.py has is not the cheapest")
     return dual

@@ -4,6 +4,7 @@ It shares nothing with the project's code or definitions.
     plan(sheet, buffer)     the answer in words, the figures of a plan, and the buffer after
     listing(sheet)          what batchplan prints
     read_listing(text)      the answer and the figures that a listing shows
+    reading(sheet)          the figures that are read, in a line, as the program `gate_read` prints them
 """
 import struct
 from functools import lru_cache
@@ -19,7 +20,8 @@ class Refused(Exception):
 
 
 class Sheet(NamedTuple):
-    """The sizes of a sheet, and its figures: one that has no entry is 0 (T3.3). a and b have a row for each limit."""
+    """The sizes of a sheet, and its figures: one that has no entry is 0 (T3.3). a has a row for each limit; b and
+    starts have a figure for each. A start is the multiplier that a limit begins with."""
 
     n: int
     m: int
@@ -31,6 +33,7 @@ class Sheet(NamedTuple):
     u: tuple
     a: tuple
     b: tuple
+    starts: tuple
 
 
 class Step(NamedTuple):
@@ -54,17 +57,24 @@ class Plan(NamedTuple):
 
 
 class Rules(NamedTuple):
-    """The rules T4.3, T5.4 and refusal 5's place. A test puts a wrong one in place of one, to see that it finds it."""
+    """The rules T4.1, T4.3, T4.6, T5.3, T5.4 and refusal 5's place. A test puts a wrong one in place of one, to see
+    that it finds it."""
 
+    first_multiplier: Callable = lambda start, D: start
     amount: Callable = lambda reduced_cost, least, most: most if reduced_cost < 0 else least
+    is_infeasible: Callable = lambda t, dual_value, greatest_value: dual_value > greatest_value
+    low: Callable = lambda least_value, dual_values: max(least_value, *dual_values)
     gap: Callable = lambda cost, bound: cost - bound
     place_of_key: Callable = lambda entry: entry
 
 
 RULES = Rules()
 
-# The ranges of the figures (T3.2). What a figure is follows from its row.
+# The greatest multiplier (T4.8), and so the greatest that a limit can begin with.
+GREATEST_MULTIPLIER = 1_073_741_824
+# The ranges of the figures (T3.2). What a figure is follows from its row and, in the row of a limit, from its column.
 COST, AMOUNT, A, B = (-10_000, 10_000), (1, 1_000), (-1_000, 1_000), (-32_000_000, 32_000_000)
+START = 1, GREATEST_MULTIPLIER
 
 
 def range_of(n, key):
@@ -72,12 +82,13 @@ def range_of(n, key):
     row, column = divmod(key, 64)
     if row <= 2:
         return COST if row == 0 else AMOUNT
-    return B if column == n else A
+    return {n: B, n + 1: START}.get(column, A)
 
 
 def is_bad_key(n, m, key, before):
+    """Whether a key names no figure, or is not above the one before. Columns n and n+1 are those of limits alone."""
     row, column = divmod(key, 64)
-    return row > m + 2 or column > n or (column == n and row <= 2) or key <= before
+    return row > m + 2 or column > n + 1 or (column >= n and row <= 2) or key <= before
 
 
 def test_entries(n, m, keys, values, rules):
@@ -96,7 +107,7 @@ def read(sheet, rules=RULES):
     if len(sheet) < 12:
         raise Refused(1, 0)
     n, m, e, p, D, k = struct.unpack_from("<6H", sheet)
-    if not (1 <= n <= 32 and m <= 16 and e <= n * (m + 3) + m):
+    if not (1 <= n <= 32 and m <= 16 and e <= n * (m + 3) + 2 * m):
         raise Refused(2, 0)
     if len(sheet) != 12 + 6 * e:
         raise Refused(3, 0)
@@ -106,12 +117,13 @@ def read(sheet, rules=RULES):
     values = struct.unpack_from(f"<{e}i", sheet, 12 + 2 * e)
     test_entries(n, m, keys, values, rules)
     figures = dict(zip(keys, values))
-    rows = [tuple(figures.get(64 * row + column, 0) for column in range(n + 1)) for row in range(m + 3)]
-    c, l, u = (row[:n] for row in rows[:3])
+    rows = [tuple(figures.get(64 * row + column, 0) for column in range(n + 2)) for row in range(m + 3)]
+    (c, l, u), limits = (row[:n] for row in rows[:3]), rows[3:]
     for j in range(n):
         if l[j] > u[j]:
             raise Refused(7, j)
-    return Sheet(n, m, p, D, k, c, l, u, tuple(row[:n] for row in rows[3:]), tuple(row[n] for row in rows[3:]))
+    a, (b, starts) = tuple(row[:n] for row in limits), (tuple(row[column] for row in limits) for column in (n, n + 1))
+    return Sheet(n, m, p, D, k, c, l, u, a, b, starts)
 
 
 def dot(xs, ys):
@@ -121,6 +133,11 @@ def dot(xs, ys):
 def greatest_cost(s):
     """The greatest cost that the bounds leave (T4.6)."""
     return dot(s.c, [u if c > 0 else l for c, l, u in zip(s.c, s.l, s.u)])
+
+
+def least_cost(s):
+    """The least cost that the bounds leave (T5.3)."""
+    return dot(s.c, [u if c < 0 else l for c, l, u in zip(s.c, s.l, s.u)])
 
 
 def columns(s):
@@ -139,13 +156,15 @@ def step(s, by_material, multipliers, rules=RULES):
 
 
 def steps_of(s, rules=RULES):
-    """The steps 0 to k−1, one after the other (T5), unless one is refused (T4.6, T4.8)."""
-    multipliers, by_material, greatest_value = (0,) * s.m, columns(s), s.D * greatest_cost(s)
+    """The steps 0 to k−1, one after the other (T5), unless one is refused (T4.6, T4.8). The first begins with the
+    starts of the sheet (T4.1)."""
+    multipliers = tuple(rules.first_multiplier(start, s.D) for start in s.starts)
+    by_material, greatest_value = columns(s), s.D * greatest_cost(s)
     for t in range(s.k):
         done = step(s, by_material, multipliers, rules)
-        if done.dual_value > greatest_value:
+        if rules.is_infeasible(t, done.dual_value, greatest_value):
             raise Refused(9, t)
-        if any(M > 1_073_741_824 for M in done.multipliers):
+        if any(M > GREATEST_MULTIPLIER for M in done.multipliers):
             raise Refused(10, t)
         yield done
         multipliers = done.multipliers
@@ -157,10 +176,16 @@ def totals(rows):
 
 
 @lru_cache(maxsize=1)
+def all_steps(s, rules=RULES):
+    """The steps of a sheet together. The last are kept, because a test asks for a plan and then for its steps."""
+    return tuple(steps_of(s, rules))
+
+
+@lru_cache(maxsize=1)
 def run(s, rules=RULES):
     """The plan after k steps (T5). The last is kept, because a test plans a sheet with several buffers."""
-    steps = list(steps_of(s, rules))
-    low = max(each.dual_value for each in steps)
+    steps = all_steps(s, rules)
+    low = rules.low(s.D * least_cost(s), [each.dual_value for each in steps])
     sums = totals(each.amounts for each in steps)
     gap = rules.gap(s.D * dot(s.c, sums), s.k * low)
     return Plan(s.k, low, gap, sums, steps[-1].multipliers, totals(each.residuals for each in steps))
@@ -230,3 +255,16 @@ def read_listing(text):
     if listing_of(answer, figures) != text:
         raise ValueError(f"no listing: {text}")
     return answer, figures
+
+
+def reading(sheet):
+    """What is read of a sheet: a refusal, or the sizes and the figures that are not 0."""
+    try:
+        s = read(sheet)
+    except Refused as refusal:
+        return str(refusal)
+    figures = [(f"{letter}{j}", value) for letter, row in zip("clu", (s.c, s.l, s.u)) for j, value in enumerate(row)]
+    figures += [(f"a{i},{j}", value) for i, row in enumerate(s.a) for j, value in enumerate(row)]
+    figures += [(f"{letter}{i}", value) for letter, row in zip("bs", (s.b, s.starts)) for i, value in enumerate(row)]
+    listed = [f"{name}={value}" for name, value in figures if value != 0]
+    return " ".join(["accepted", *map(str, (s.n, s.m, s.p, s.D, s.k)), *listed])

@@ -3,7 +3,7 @@ import struct
 from typing import NamedTuple
 
 from generator import Generator
-from planner import dot
+from planner import GREATEST_MULTIPLIER, START, dot
 from sheets import Case, bytes_of, packed, text_of
 
 
@@ -53,8 +53,19 @@ WIDE = Ranges(
 )
 
 
+def random_starts(generator, m, D, ranges):
+    """The starts of m limits. Half of the sheets have none. Of the others two thirds have starts of about the size that
+    multipliers come to, D times a cost over a coefficient; the rest has them at the top of their range, or anywhere in
+    it. A fourth of these starts is 0."""
+    usual = 1, 2 * D * max(map(abs, ranges.cost)) // max(map(abs, ranges.a)) + 1
+    kinds = [None] * 6 + [usual] * 4 + [(GREATEST_MULTIPLIER - 9, GREATEST_MULTIPLIER), START]
+    ends = generator.one_of(kinds)
+    return [generator.between(*ends) * min(generator.between(0, 3), 1) if ends else 0 for _ in range(m)]
+
+
 def random_sheet(generator, n, m, ranges):
-    """The text of a sheet of n materials and m limits. About half of the least amounts and a fourth of a are 0."""
+    """The text of a sheet of n materials and m limits. About half of the least amounts and a fourth of a are 0. The
+    starts are drawn last."""
     p, D, k = (generator.between(*ends) for ends in (ranges.p, ranges.D, ranges.k))
     costs = [generator.between(*ranges.cost) for _ in range(n)]
     most = [generator.between(*ranges.most) for _ in range(n)]
@@ -62,6 +73,8 @@ def random_sheet(generator, n, m, ranges):
     recipe = [generator.between(*each) for each in zip(least, most)]
     rows = [[generator.between(*ranges.a) * min(generator.between(0, 3), 1) for _ in range(n)] for _ in range(m)]
     limits = [[*row, dot(row, recipe) + generator.between(*ranges.spare)] for row in rows]
+    starts = random_starts(generator, m, D, ranges)
+    limits = [[*limit, start] for limit, start in zip(limits, starts)]
     return text_of(f"n={n} m={m} p={p} D={D} k={k}", [costs, least, most, *limits])
 
 
@@ -71,13 +84,15 @@ def small_sheet(generator, ranges):
     return random_sheet(generator, n, m, ranges)
 
 
-def large_sheet(generator, sizes, least_b, greatest_b):
-    """The text of a sheet of the largest sizes, with every entry. Costs and a are at the ends of their ranges, and the
-    amounts at or near them."""
+def large_sheet(generator, sizes, b, starts=None):
+    """The text of a sheet of the largest sizes, with every entry, or with every one but the starts. Costs and a are at
+    the ends of their ranges, and the amounts at or near them; the ranges of b and of the starts are given."""
     ends = [[generator.between(0, 1) for _ in range(32)] for _ in range(19)]
     costs = [20_000 * end - 10_000 for end in ends[0]]
     least, most = [1 + 9 * end for end in ends[1]], [1_000 - end for end in ends[2]]
-    limits = [[*(2_000 * end - 1_000 for end in row), generator.between(least_b, greatest_b)] for row in ends[3:]]
+    limits = [[*(2_000 * end - 1_000 for end in row), generator.between(*b)] for row in ends[3:]]
+    if starts:
+        limits = [[*limit, generator.between(*starts)] for limit in limits]
     return text_of(f"n=32 m=16 {sizes}", [costs, least, most, *limits])
 
 
@@ -107,9 +122,10 @@ def wide(generator):
 
 
 def large(generator):
-    """A sheet of the largest sizes, with every entry."""
+    """A sheet of the largest sizes, with every entry, or with every one but the starts."""
     sizes = f"p={generator.between(1, 40)} D={generator.between(1, 1_024)} k={generator.between(1, 200)}"
-    return bytes_of(large_sheet(generator, sizes, generator.one_of([-1_000_000, 0]), 32_000_000))
+    b = generator.one_of([-1_000_000, 0]), 32_000_000
+    return bytes_of(large_sheet(generator, sizes, b, generator.one_of([None, (1, 9_999), START])))
 
 
 def parts_of(sheet):
@@ -189,7 +205,7 @@ def with_another_parameter(generator):
 def with_another_value(generator):
     """One value is 0, a number at the end of a range, or any number."""
     sizes, entries = parts_of(sound(generator))
-    ends = [0, 1, 1_000, 1_001, 10_000, 10_001, 32_000_000, 32_000_001]
+    ends = [0, 1, 1_000, 1_001, 10_000, 10_001, 32_000_000, 32_000_001, GREATEST_MULTIPLIER, GREATEST_MULTIPLIER + 1]
     value = generator.one_of([*ends, generator.between(0, 2**31 - 1)])
     place = generator.between(0, len(entries) - 1)
     entries[place] = entries[place][0], value * generator.one_of([1, -1])
@@ -200,6 +216,15 @@ def with_a_raised_least_amount(generator):
     """A least amount of 1,000, which the most amount is mostly below."""
     sizes, entries = parts_of(sound(generator))
     entries = sorted({**dict(entries), 64 + generator.between(0, sizes[0] - 1): 1_000}.items())
+    sizes[2] = len(entries)
+    return packed(sizes, entries)
+
+
+def with_an_entry_at_the_edge(generator):
+    """An entry in one of the columns n to n+2, of any row from 0 to m+3."""
+    sizes, entries = parts_of(sound(generator))
+    row, column = generator.between(0, sizes[1] + 3), sizes[0] + generator.between(0, 2)
+    entries = sorted({**dict(entries), 64 * row + column: generator.between(1, 9)}.items())
     sizes[2] = len(entries)
     return packed(sizes, entries)
 
@@ -216,13 +241,14 @@ MAKERS = [
     (3, cut),
     (3, cut_in_the_sizes),
     (3, overlong),
-    (6, with_random_bytes),
-    (6, with_a_changed_byte),
+    (4, with_random_bytes),
+    (4, with_a_changed_byte),
     (4, with_swapped_entries),
     (4, with_another_size),
     (4, with_another_parameter),
     (4, with_another_value),
     (4, with_a_raised_least_amount),
+    (4, with_an_entry_at_the_edge),
 ]
 
 SHEETS_OF_A_SEED = sum(number for number, _ in MAKERS)

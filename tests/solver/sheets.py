@@ -1,5 +1,5 @@
-"""Sheets as bytes from readable text, the worked sheets C1 to C10, and families of sheets that more than one test is
-run on."""
+"""Sheets as bytes from readable text, the worked sheets C1 to C10 and S1 to S9, and families of sheets that more than
+one test is run on."""
 import struct
 from itertools import combinations
 from typing import NamedTuple
@@ -43,14 +43,35 @@ C8  | n=1 m=0 k=2 0:-2 128:3              | steps 2/mat 0 6/low -6/gap 0/
 C9  | n=1 m=0 0:5 64:4 128:4              | steps 1/mat 0 4/low 20/gap 0/
 C10 | n=1 m=0 64:4 128:3                  | refused 7 0/
 """
+# The worked sheets with starting multipliers (T11.3), in the same form.
+STARTED_TABLE = """
+S1  | n=2 m=1 D=8 k=4 0:3 1:1 128:10 129:10 192:-2 193:-1 194:-12 195:12 \
+    | steps 4/mat 0 10/mat 1 30/lim 0 14 -2/low 104/gap 64/
+S2  | n=1 m=1 0:1 128:1 192:-1 193:-5 194:5 | refused 9 0/
+S3  | n=1 m=1 D=2 k=2 0:1 64:1 128:3 192:1 193:3 194:10 | steps 2/mat 0 2/lim 0 6 -4/low 2/gap 0/
+S4  | n=1 m=1 194:1073741824                | steps 1/mat 0 0/lim 0 1073741824 0/low 0/gap 0/
+S5  | n=1 m=1 194:1073741825                | refused 6 0/
+S6  | n=32 m=16 31:5 159:1 1183:-1 1184:-1 1185:7 \
+    | steps 1/mat 0 0/mat 1 0/mat 2 0/mat 3 0/mat 4 0/mat 5 0/mat 6 0/mat 7 0/mat 8 0/mat 9 0/mat 10 0/mat 11 0/\
+mat 12 0/mat 13 0/mat 14 0/mat 15 0/mat 16 0/mat 17 0/mat 18 0/mat 19 0/mat 20 0/mat 21 0/mat 22 0/mat 23 0/\
+mat 24 0/mat 25 0/mat 26 0/mat 27 0/mat 28 0/mat 29 0/mat 30 0/mat 31 1/lim 0 0 0/lim 1 0 0/lim 2 0 0/lim 3 0 0/\
+lim 4 0 0/lim 5 0 0/lim 6 0 0/lim 7 0 0/lim 8 0 0/lim 9 0 0/lim 10 0 0/lim 11 0 0/lim 12 0 0/lim 13 0 0/lim 14 0 0/\
+lim 15 7 0/low 5/gap 0/
+S7  | n=1 m=1 p=4 D=6 0:1 128:2 192:-2 193:-3 194:12 | steps 1/mat 0 2/lim 0 8 -1/low 0/gap 12/
+S8  | n=1 m=1 p=1024 D=1024 0:10000 64:1000 128:1000 192:-1000 193:32000000 194:1073741824 \
+    | steps 1/mat 0 1000/lim 0 0 -33000000/low 10240000000/gap 0/
+S9  | n=1 m=1 0:1 64:1 128:1 192:1 193:1 194:1 195:1 | refused 2 0/
+"""
 MARKED = {name: sheet for name, sheet, _ in lines_of(TABLE)}
-LISTINGS = {name: text.replace("/", "\n").encode() for name, _, text in lines_of(TABLE)}
+STARTED = {name: sheet for name, sheet, _ in lines_of(STARTED_TABLE)}
+WORKED = {**MARKED, **STARTED}
+LISTINGS = {name: text.replace("/", "\n").encode() for name, _, text in lines_of(TABLE + STARTED_TABLE)}
 
 
 def words_of(text):
     """The words of a sheet's text. The name of a worked sheet stands for its words."""
     for word in text.split():
-        yield from MARKED.get(word, word).split()
+        yield from WORKED.get(word, word).split()
 
 
 def packed(sizes, entries):
@@ -90,6 +111,16 @@ def framed(part):
     return struct.pack("<H", len(part)) + part
 
 
+def frames_in(content, after):
+    """The frames of a standard input: each sheet, and the bytes after it that belong to its frame. The last may be cut
+    short."""
+    at = 0
+    while at + 2 <= len(content):
+        end = at + 2 + struct.unpack_from("<H", content, at)[0]
+        yield content[at + 2 : end], content[end : end + after]
+        at = end + after
+
+
 def record_length_of(sheet):
     """The length of the record of a sheet. Sizes that are out of range or missing count as the largest."""
     n, m = struct.unpack_from("<2H", sheet) if len(sheet) >= 4 else (32, 16)
@@ -103,12 +134,13 @@ def lent(length):
 
 def full(n, m, sizes="p=7 D=512 k=300"):
     """A sheet with every entry that n and m allow. No two figures of a kind are equal, and those that may be negative
-    have both signs."""
+    have both signs. A start is small where b is below 0: with the residual above 0 a large one would be refused."""
     rows = [[key * 611 % 20_001 - 10_000 for key in range(n)]]
     rows += [[key * 7 % 500 + 1 for key in range(64, 64 + n)], [key * 11 % 500 + 501 for key in range(128, 128 + n)]]
     for first in range(192, 64 * (m + 3), 64):
         a = [key * 611 % 2_001 - 1_000 for key in range(first, first + n)]
-        rows.append([*a, (first + n) * 54_321 % 64_000_001 - 32_000_000])
+        b = (first + n) * 54_321 % 64_000_001 - 32_000_000
+        rows.append([*a, b, first // 64 if b < 0 else 2**30 - first * 876_543])
     return text_of(f"n={n} m={m} {sizes}", rows)
 
 
@@ -119,16 +151,17 @@ OPEN = [
     ("most amount", "n=2 m=2 0.0:5 2.1:{}", 1, 1_000, 1),
     ("a", "n=2 m=2 0.0:5 4.1:{}", -1_000, 1_000, 1),
     ("b", "n=2 m=2 0.0:5 4.1:5 4.2:{}", -32_000_000, 32_000_000, 2),
+    ("start", "n=2 m=2 0.0:5 4.1:5 4.3:{}", 1, 1_073_741_824, 2),
 ]
 
 
 def ends_of_figures():
-    """The last values inside the range of each kind of figure, and then the first outside it and 0: a name, whether the
-    value is inside, its entry, and the sheet."""
+    """The last values inside the range of each kind of figure, and then the first outside it, 0, and -1 where that is
+    outside: a name, whether the value is inside, its entry, and the sheet."""
     for name, text, least, greatest, entry in OPEN:
         for value in least, greatest:
             yield f"{name} {value}", True, entry, bytes_of(text.format(value))
-        for value in sorted({least - 1, 0, greatest + 1}):
+        for value in sorted({least - 1, 0, min(least - 1, -1), greatest + 1}):
             yield f"{name} {value}", False, entry, bytes_of(text.format(value))
 
 

@@ -20,26 +20,58 @@ static unsigned two_bytes(const uint8_t *from)
     return from[0] + 256u * from[1];
 }
 
-/* A copy of a sheet without the entries of every limit after the first: row 3 ends below key 256, and keys rise. */
-static size_t with_first_limit(const uint8_t *sheet, uint8_t *copy)
+/* Which entries of a sheet of n materials a copy keeps, by their keys. */
+typedef int keeps(unsigned n, unsigned key);
+
+/* Row 3, of the first limit, ends below key 256. */
+static int first_rows(unsigned n, unsigned key)
 {
-    size_t e = two_bytes(sheet + 4), kept = 0;
-    while (kept < e && two_bytes(sheet + 12 + 2 * kept) < 256) kept++;
-    memcpy(copy, sheet, 12 + 2 * kept);
-    memcpy(copy + 12 + 2 * kept, sheet + 12 + 2 * e, 4 * kept);
+    (void)n;
+    return key < 256;
+}
+
+/* Column n + 1 has the starting multipliers. */
+static int no_starts(unsigned n, unsigned key)
+{
+    return key % 64 != n + 1;
+}
+
+/* A copy of a sheet without some of its entries. */
+static size_t copy_of(const uint8_t *sheet, uint8_t *copy, keeps *is_kept)
+{
+    size_t e = two_bytes(sheet + 4), kept = 0, from, to = 0;
+    unsigned n = two_bytes(sheet);
+    for (from = 0; from < e; from++) kept += is_kept(n, two_bytes(sheet + 12 + 2 * from)) != 0;
+    memcpy(copy, sheet, 12);
     copy[4] = kept % 256;
     copy[5] = kept / 256;
+    for (from = 0; from < e; from++) {
+        if (!is_kept(n, two_bytes(sheet + 12 + 2 * from))) continue;
+        memcpy(copy + 12 + 2 * to, sheet + 12 + 2 * from, 2);
+        memcpy(copy + 12 + 2 * kept + 4 * to, sheet + 12 + 2 * e + 4 * from, 4);
+        to++;
+    }
     return 12 + 6 * kept;
 }
+
+/* Plans a copy of a sheet, where the sheet itself is not refused before the steps. */
+#define PLAN_COPY(is_kept)                                                                                        \
+    uint8_t copy[BATCHPLAN_SHEET_BYTES], own[BATCHPLAN_RECORD_BYTES];                                             \
+    size_t own_bytes = record_bytes < sizeof own ? record_bytes : sizeof own;                                     \
+    size_t number = batchplan_plan(sheet, sheet_bytes, own, own_bytes, place, low, gap);                          \
+    if (number >= BATCHPLAN_SHORT && number <= BATCHPLAN_BUFFER) return number;                                   \
+    return batchplan_plan(copy, copy_of(sheet, copy, is_kept), record, record_bytes, place, low, gap);
 
 /* Ignores every limit after the first. */
 PLAN(first_limit)
 {
-    uint8_t copy[BATCHPLAN_SHEET_BYTES], own[BATCHPLAN_RECORD_BYTES];
-    size_t own_bytes = record_bytes < sizeof own ? record_bytes : sizeof own;
-    size_t number = batchplan_plan(sheet, sheet_bytes, own, own_bytes, place, low, gap);
-    if (number >= BATCHPLAN_SHORT && number <= BATCHPLAN_BUFFER) return number;
-    return batchplan_plan(copy, with_first_limit(sheet, copy), record, record_bytes, place, low, gap);
+    PLAN_COPY(first_rows)
+}
+
+/* Ignores the starting multipliers. */
+PLAN(no_start)
+{
+    PLAN_COPY(no_starts)
 }
 
 /* Gives low for gap. */

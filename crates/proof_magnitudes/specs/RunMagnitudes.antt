@@ -82,7 +82,7 @@ module _ {P : Problem} {k : ℕ} (a : Accepted P k) where
   multiplier-bnd t h i l =
       bnd-between (≤ℤ-trans (leZ-yes tt) (entering-sign P (a .start-sign) t i l)) (multiplier-top t h i l)
 
-  -- ---- low begins at D times the cheapest cost, and T4.6 keeps it in the range of the costs
+  -- ---- low is D times the cheapest cost before any step, and T4.6 keeps it in the range of the costs
   low-range : (t : ℕ) → stepRefusal P t ≡ none → InCostRange P (stateAfter P t .lowerBound)
   unfolding stateAfter start cheapestCost
   low-range zero h = cost-in-range P (cheapestEnd P) (minimal-within (a .ordered) (cheapest-minimal P))

@@ -28,8 +28,7 @@ fn of_material(kind: Kind, shape: Shape, column: usize) -> Meaning
     }
 }
 
-// In a limit's row, its coefficients stand in the columns below n, its right-hand side in column n, and its start in the
-// next.
+// In a limit's row, its coefficients stand in the columns below n, then its right-hand side and its start.
 fn of_limit(shape: Shape, column: usize) -> Meaning
     ensures { λ r. ⌜ meaningOf r ≡ unless 5 (ltb (shape .materials + 1) column) (gives (kindAt shape 3 column)) ⌝ }
 {

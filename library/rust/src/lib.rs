@@ -1,9 +1,9 @@
 //! Plans batch sheets.
 //!
-//! A sheet has n materials with costs and bounds, m limits, a step length p/D and a step count k. Planning it takes k
-//! steps of a dual subgradient method in whole numbers, and gives the sums of the amounts, a lower bound on cost
-//! (`low`), a gap, and for each limit the closing multiplier and the overshoot. docs/TASK.md of the project states the
-//! layout of a sheet and every rule.
+//! A sheet has n materials with costs and bounds, m limits with their starting multipliers, a step length p/D and a
+//! step count k. Planning it takes k steps of a dual subgradient method in whole numbers, and gives the sums of the
+//! amounts, a lower bound on cost (`low`), a gap, and for each limit the closing multiplier and the overshoot.
+//! docs/TASK.md of the project states the layout of a sheet and every rule.
 //!
 //! The work is done by a library in Rattle that is proved to answer, for every sheet and every buffer, what these rules
 //! give. This crate declares its functions and makes them safe to call: every function here takes any bytes, and none
@@ -25,6 +25,10 @@
 //! assert_eq!((plan.low, plan.gap, &plan.sums[..]), (20, 0, &[4][..]));
 //! assert_eq!(batchplan::listing(&sheet), "steps 1\nmat 0 4\nlow 20\ngap 0\n");
 //! ```
+//!
+//! To go on next week where a plan ends, give each limit of the new sheet the closing multiplier of the old plan,
+//! [`Limit::multiplier`], as its start: under the key 64 (3 + i) + n + 1 for limit i, and with no entry where it is 0.
+//! Both are times D, so that the new sheet keeps D, and the units of costs and limits too.
 #![warn(missing_docs)]
 
 use std::error::Error;
@@ -32,10 +36,13 @@ use std::fmt;
 
 /// The version of the rules that this crate is for. Where [`version`] gives another number, the archive that was linked
 /// is not the one that this crate was written for.
-pub const VERSION: usize = 1;
+///
+/// Version 2 has the starts, and longer sheets with them. A sheet that version 1 reads has no starts, and its answer
+/// and its record are what they were.
+pub const VERSION: usize = 2;
 
 /// The length of the longest sheet. A longer one is refused.
-pub const SHEET_BYTES: usize = 3756;
+pub const SHEET_BYTES: usize = 3852;
 
 /// The length of the longest record. A buffer of this length takes every record, so that no sheet is refused with 8.
 pub const RECORD_BYTES: usize = 342;
@@ -173,8 +180,8 @@ pub enum Answer {
 
 /// Plans a sheet into a record buffer. Both may have any length and hold any bytes.
 ///
-/// A record is n, m and k in 2 bytes each, low and gap in 8, n sums and m multipliers in 4, m overshoots in 8, the
-/// lowest byte first: 22 + 4n + 12m bytes. [`Plan::of_record`] reads it.
+/// A record is n, m and k in 2 bytes each, low and gap in 8, n sums and m closing multipliers in 4, m overshoots in 8,
+/// the lowest byte first: 22 + 4n + 12m bytes. [`Plan::of_record`] reads it.
 pub fn plan(sheet: &[u8], record: &mut [u8]) -> Answer {
     let (mut place, mut low, mut gap) = (0, 0, 0);
     // SAFETY: each pointer and length is that of a Rust slice, and each of the other three pointers that of a local
@@ -212,7 +219,7 @@ pub fn listing(sheet: &[u8]) -> String {
 /// What a plan says of one limit.
 #[derive(Clone, Copy, Debug, PartialEq, Eq, Hash)]
 pub struct Limit {
-    /// The closing multiplier, times D.
+    /// The closing multiplier, times D. It is the start of this limit in a sheet that goes on from here.
     pub multiplier: i32,
     /// The total of the residuals of all steps. The average oversteps the limit by this over the number of steps.
     pub overshoot: i64,
@@ -230,7 +237,7 @@ pub struct Plan {
     pub gap: i64,
     /// For each material the total of its amounts.
     pub sums: Vec<i32>,
-    /// For each limit its multiplier and its overshoot.
+    /// For each limit its closing multiplier and its overshoot.
     pub limits: Vec<Limit>,
 }
 

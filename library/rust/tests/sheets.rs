@@ -1,4 +1,5 @@
-//! The wrapper on the worked sheets of docs/TASK.md, on cut and overlong sheets, on buffers of many lengths, on noise.
+//! The wrapper on the worked sheets of docs/TASK.md, on sheets that go on from a plan, on cut and overlong sheets, on
+//! buffers of many lengths, on noise.
 use batchplan::{listing, plan, Answer, Cause, Limit, Plan, Refusal, RECORD_BYTES, SHEET_BYTES};
 
 /// A sheet: its sizes n, m, p, D, k, and its entries, each a key and a value.
@@ -14,12 +15,13 @@ fn sheet([n, m, p, d, k]: [u16; 5], entries: &[(u16, i32)]) -> Vec<u8> {
     bytes
 }
 
+/// The entries of C1.
+const C1: [(u16, i32); 7] =
+    [(0, 3), (1, 1), (128, 10), (129, 10), (192, -2), (193, -1), (194, -12)];
+
 /// C1, with a step count.
 fn c1(steps: u16) -> Vec<u8> {
-    sheet(
-        [2, 1, 1, 8, steps],
-        &[(0, 3), (1, 1), (128, 10), (129, 10), (192, -2), (193, -1), (194, -12)],
-    )
+    sheet([2, 1, 1, 8, steps], &C1)
 }
 
 /// C3, with a step count.
@@ -73,6 +75,31 @@ fn marked() -> Vec<(&'static str, Vec<u8>, Result<Plan, Refusal>)> {
     ]
 }
 
+/// Sheets with a start: C4 with the multiplier at which C3 is refused; one whose dual value, -10, is below the least
+/// cost of the bounds, 0, where low begins; and the ends of the range.
+fn started() -> Vec<(&'static str, Vec<u8>, Result<Plan, Refusal>)> {
+    let one = |entries: &[(u16, i32)]| sheet([1, 1, 1, 1, 1], entries);
+    vec![
+        (
+            "a start at a refusal",
+            one(&[(0, 1), (128, 1), (192, -1), (193, -5), (194, 5)]),
+            refused(Cause::Infeasible, 0),
+        ),
+        (
+            "a low dual value",
+            one(&[(0, 1), (128, 1), (192, 1), (193, 1), (194, 10)]),
+            planned(1, [0, 0], &[0], &[(9, -1)]),
+        ),
+        (
+            "the greatest start",
+            one(&[(194, 1_073_741_824)]),
+            planned(1, [0, 0], &[0], &[(1_073_741_824, 0)]),
+        ),
+        ("a start above that", one(&[(194, 1_073_741_825)]), refused(Cause::Value, 0)),
+        ("a start below 0", one(&[(194, -1)]), refused(Cause::Value, 0)),
+    ]
+}
+
 /// What a record buffer holds before a plan: bytes that differ by place.
 fn filled(length: usize) -> Vec<u8> {
     (0..length).map(|i| (7 * i + 3) as u8).collect()
@@ -92,6 +119,34 @@ fn text_of(result: &Result<Plan, Refusal>) -> String {
         text += &format!("lim {i} {} {}\n", limit.multiplier, limit.overshoot);
     }
     text + &format!("low {}\ngap {}\n", plan.low, plan.gap)
+}
+
+/// Entries with the closing multipliers of a plan as the starts of the limits, which stand in column n + 1.
+fn going_on(entries: &[(u16, i32)], plan: &Plan) -> Vec<(u16, i32)> {
+    let column = plan.sums.len() as u16 + 1;
+    let others = entries.iter().copied().filter(|&(key, _)| key < 192 || key % 64 != column);
+    let starts = (3..).zip(&plan.limits).map(|(row, limit)| (64 * row + column, limit.multiplier));
+    let mut all: Vec<_> = others.chain(starts.filter(|start| start.1 != 0)).collect();
+    all.sort_unstable();
+    all
+}
+
+/// The plan of two together, of which the second goes on from the first.
+fn joined(first: &Plan, second: &Plan) -> Plan {
+    let low = first.low.max(second.low);
+    // D times the cost of the sums
+    let cost = |plan: &Plan| plan.gap + i64::from(plan.steps) * plan.low;
+    let steps = first.steps + second.steps;
+    let limits = first.limits.iter().zip(&second.limits);
+    Plan {
+        steps,
+        low,
+        gap: cost(first) + cost(second) - i64::from(steps) * low,
+        sums: first.sums.iter().zip(&second.sums).map(|(one, other)| one + other).collect(),
+        limits: limits
+            .map(|(one, other)| Limit { overshoot: one.overshoot + other.overshoot, ..*other })
+            .collect(),
+    }
 }
 
 /// Plans a sheet into a buffer and holds the answer, the buffer and the listing together; gives the answer.
@@ -119,8 +174,8 @@ fn tried(sheet: &[u8], length: usize) -> Answer {
 }
 
 #[test]
-fn marked_sheets() {
-    for (name, sheet, expected) in marked() {
+fn marked_and_started_sheets() {
+    for (name, sheet, expected) in marked().into_iter().chain(started()) {
         assert_eq!(Plan::of_sheet(&sheet), expected, "{name}");
         assert_eq!(listing(&sheet), text_of(&expected), "{name}");
         tried(&sheet, RECORD_BYTES);
@@ -131,6 +186,16 @@ fn marked_sheets() {
 fn listings_of_c1_and_c3() {
     assert_eq!(listing(&c1(4)), "steps 4\nmat 0 10\nmat 1 20\nlim 0 12 8\nlow 104\ngap -16\n");
     assert_eq!(listing(&c3(2)), "refused 9 1\n");
+}
+
+#[test]
+fn c1_goes_on() {
+    let next = going_on(&C1, &Plan::of_sheet(&c1(4)).unwrap());
+    assert_eq!(next[7..], [(195, 12)]);
+    assert_eq!(
+        listing(&sheet([2, 1, 1, 8, 4], &next)),
+        "steps 4\nmat 0 10\nmat 1 30\nlim 0 14 -2\nlow 104\ngap 64\n"
+    );
 }
 
 #[test]
@@ -210,31 +275,34 @@ impl Generator {
         let small = self.below(10) as i32;
         match (row, self.below(100)) {
             (3.., 0..8) if column == n => -(1 + small) * 1_000_000,
+            (3.., 0..8) if column > n => 1_073_741_825 - small,
             (1, 0) => -small,
             (0 | 1, _) => small,
             (2, _) => 9 + small,
             _ if column == n => 2 * small - 12,
+            _ if column > n => 4 * small,
             _ => small - 5,
         }
     }
 
-    /// A small sheet. A figure of 0 has no entry.
-    fn sheet(&mut self) -> Vec<u8> {
+    /// The sizes and the entries of a small sheet. A figure of 0 has no entry.
+    fn parts(&mut self) -> ([u16; 5], Vec<(u16, i32)>) {
         let (n, m) = (1 + self.below(6), self.below(4));
         let p = if self.below(5) == 0 { 1024 } else { 1 + self.below(5) };
         let (d, k) = (1 + self.below(40), 1 + self.below(60));
-        let places =
-            (0..m + 3).flat_map(|row| (0..n + u32::from(row > 2)).map(move |column| (row, column)));
+        let columns = |row| if row > 2 { n + 2 } else { n };
+        let places = (0..m + 3).flat_map(|row| (0..columns(row)).map(move |column| (row, column)));
         let entries: Vec<_> = places
             .map(|(row, column)| ((64 * row + column) as u16, self.figure(row, column, n)))
             .collect();
-        let entries: Vec<_> = entries.into_iter().filter(|entry| entry.1 != 0).collect();
-        sheet([n, m, p, d, k].map(|size| size as u16), &entries)
+        let entries = entries.into_iter().filter(|entry| entry.1 != 0).collect();
+        ([n, m, p, d, k].map(|size| size as u16), entries)
     }
 
     /// A small sheet, in every fourth case with one byte changed, and in every eighth cut.
     fn damaged(&mut self) -> Vec<u8> {
-        let mut sheet = self.sheet();
+        let (sizes, entries) = self.parts();
+        let mut sheet = sheet(sizes, &entries);
         let place = self.below(sheet.len() as u32) as usize;
         match self.below(8) {
             0 | 1 => sheet[place] = self.below(256) as u8,
@@ -268,6 +336,25 @@ fn small_sheets_whole_and_damaged() {
         }
     }
     assert!(met.iter().all(|&count| count > 4), "plans and refusals 1 to 10 all occur: {met:?}");
+}
+
+/// A plan and one that goes on from it are, together, the plan of all their steps.
+#[test]
+fn plans_that_go_on_are_one_plan() {
+    let mut generator = Generator(3);
+    let mut met = [0; 2];
+    for _ in 0..1_000 {
+        let ([n, m, p, d, k], entries) = generator.parts();
+        let Ok(first) = Plan::of_sheet(&sheet([n, m, p, d, k], &entries)) else { continue };
+        let later = 1 + generator.below(60) as u16;
+        let second = Plan::of_sheet(&sheet([n, m, p, d, later], &going_on(&entries, &first)));
+        let expected = second
+            .map(|second| joined(&first, &second))
+            .map_err(|refusal| Refusal { place: refusal.place + usize::from(k), ..refusal });
+        met[usize::from(expected.is_err())] += 1;
+        assert_eq!(Plan::of_sheet(&sheet([n, m, p, d, k + later], &entries)), expected);
+    }
+    assert!(met.iter().all(|&count| count > 9), "plans and refusals occur: {met:?}");
 }
 
 #[test]
