@@ -89,9 +89,9 @@ S6 = record {
       text "steps 1\nmat 0 0\nmat 1 0\nmat 2 0\nmat 3 0\nmat 4 0\nmat 5 0\nmat 6 0\nmat 7 0\nmat 8 0\nmat 9 0\n"
       ++ text "mat 10 0\nmat 11 0\nmat 12 0\nmat 13 0\nmat 14 0\nmat 15 0\nmat 16 0\nmat 17 0\nmat 18 0\nmat 19 0\n"
       ++ text "mat 20 0\nmat 21 0\nmat 22 0\nmat 23 0\nmat 24 0\nmat 25 0\nmat 26 0\nmat 27 0\nmat 28 0\nmat 29 0\n"
-      ++ text "mat 30 0\nmat 31 1\nlim 0 0 0\nlim 1 0 0\nlim 2 0 0\nlim 3 0 0\nlim 4 0 0\nlim 5 0 0\nlim 6 0 0\nlim 7 0 0\n"
-      ++ text "lim 8 0 0\nlim 9 0 0\nlim 10 0 0\nlim 11 0 0\nlim 12 0 0\nlim 13 0 0\nlim 14 0 0\nlim 15 7 0\n"
-      ++ text "low 5\ngap 0\n";
+      ++ text "mat 30 0\nmat 31 1\nlim 0 0 0\nlim 1 0 0\nlim 2 0 0\nlim 3 0 0\nlim 4 0 0\nlim 5 0 0\nlim 6 0 0\n"
+      ++ text "lim 7 0 0\nlim 8 0 0\nlim 9 0 0\nlim 10 0 0\nlim 11 0 0\nlim 12 0 0\nlim 13 0 0\n"
+      ++ text "lim 14 0 0\nlim 15 7 0\nlow 5\ngap 0\n";
 }
 
 -- The residual claim and the squares claim are equations (Points). p = 4, D = 6: cost 1, most 2, −2·x ≤ −3, start 12.
