@@ -1,8 +1,8 @@
 -- Every plan has its margins: weak duality gives low (T9.3) and the excess (T9.4), Proposition 1(a) the residual totals
 -- (T9.5), and Proposition 1(b) the squares (T9.6).
-use mathlib.Core.Path.{_≡_, ap, _∙_}
+use mathlib.Core.Path.{_≡_, ap}
 use Prim.Native.Nat.{ℕ}
-use lib.IntN.{pos, _*ℤ_}
+use lib.IntN.{_*ℤ_}
 use Rattle.proof_integer.specs.Sum.{sumTo-cong}
 use Rattle.rules.specs.Notation.{sumTo, at}
 use Rattle.rules.specs.Problem.{Problem, costOf}
