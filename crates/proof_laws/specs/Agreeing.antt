@@ -10,7 +10,7 @@ use Rattle.rules.specs.Notation.{maxℤ, sumTo, tabulate, at}
 use Rattle.rules.specs.Problem.{Problem, costOf, loadOf}
 use Rattle.rules.specs.Step.{State, anyBelow, reducedCost, amount, residual, dualValue, lookAt, greatestCost}
 use Rattle.rules.specs.Step.{cheapestCost, infeasible, moved, next, diverged}
-use Rattle.rules.specs.Run.{start, stateAfter, lookAfter, lowAfter, gapOf, planAfter}
+use Rattle.rules.specs.Run.{startingState, stateAfter, lookAfter, lowAfter, gapOf, planAfter}
 use Rattle.rules.specs.Refusals.{refuse, _otherwise_}
 use Rattle.rules.specs.Answers.{refusalAt, stepRefusal}
 use Rattle.proof_laws.specs.FirstPlace.{first-cong}
@@ -115,9 +115,9 @@ module _ {P Q : Problem} (same : Agree P Q) where
       }
 
   -- ---- the run
-  starts : start P ≡ start Q
-  unfolding start
-  starts =
+  starting-states : startingState P ≡ startingState Q
+  unfolding startingState
+  starting-states =
       let multipliers = by-limits (P .startingMultiplier) (Q .startingMultiplier) (same .startingMultiplier) in
       let sums = by-materials (λ _. pos 0) (λ _. pos 0) (λ _ _. refl) in
       let totals = by-limits (λ _. pos 0) (λ _. pos 0) (λ _ _. refl) in
@@ -130,7 +130,7 @@ module _ {P Q : Problem} (same : Agree P Q) where
 
   states : (t : ℕ) → stateAfter P t ≡ stateAfter Q t
   unfolding stateAfter
-  states zero = starts
+  states zero = starting-states
   states (suc t) = nexts (stateAfter P t) ∙ ap (next Q) (states t)
 
   looks-at : (t : ℕ) → lookAfter P t ≡ lookAfter Q t

@@ -5,21 +5,21 @@ use lib.ListN.{length}
 use Rattle.proof_integer.specs.Vector.{length-tabulate}
 use Rattle.rules.specs.Problem.{Problem}
 use Rattle.rules.specs.Step.{lookAt, next}
-use Rattle.rules.specs.Run.{start, stateAfter, lookAfter}
+use Rattle.rules.specs.Run.{startingState, stateAfter, lookAfter}
 
 module _ (P : Problem) where
   pub multipliers-length : (t : ℕ) → length (stateAfter P t .multipliers) ≡ P .limits
-  unfolding stateAfter start next
+  unfolding stateAfter startingState next
   multipliers-length zero = length-tabulate (P .limits) _
   multipliers-length (suc t) = length-tabulate (P .limits) _
 
   pub sums-length : (t : ℕ) → length (stateAfter P t .sums) ≡ P .materials
-  unfolding stateAfter start next
+  unfolding stateAfter startingState next
   sums-length zero = length-tabulate (P .materials) _
   sums-length (suc t) = length-tabulate (P .materials) _
 
   pub totals-length : (t : ℕ) → length (stateAfter P t .residualTotals) ≡ P .limits
-  unfolding stateAfter start next
+  unfolding stateAfter startingState next
   totals-length zero = length-tabulate (P .limits) _
   totals-length (suc t) = length-tabulate (P .limits) _
 

@@ -13,7 +13,7 @@ use Rattle.proof_integer.specs.Sum.{sumTo-none, sumTo-cong}
 use Rattle.rules.specs.Notation.{sumTo}
 use Rattle.rules.specs.Problem.{Problem, costOf}
 use Rattle.rules.specs.Step.{reducedCost, amount, dualValue, lookAt, cheapestCost, next}
-use Rattle.rules.specs.Run.{start, stateAfter, lookAfter, lowAfter}
+use Rattle.rules.specs.Run.{startingState, stateAfter, lookAfter, lowAfter}
 use Rattle.proof_magnitudes.specs.CostRange.{cheapestEnd}
 use Rattle.proof_magnitudes.specs.Steps.{entering, amounts, entering-first, amounts-are}
 
@@ -47,18 +47,22 @@ module _ (P : Problem) (M : ℕ → ℤ) (at-zero : (i : ℕ) → i < P .limits 
       rw (nothing-added (pos (P .scale) *ℤ P .cost j) (λ i. P .coefficient i j))
       (ap (λ b. cond b (P .most j) (P .least j)) (same-sign (P .scale) (P .cost j) some))
 
--- after step 0, low is its dual value
-pub first-low : (P : Problem) → 1 ≤ P .scale → ((i : ℕ) → i < P .limits → P .startingMultiplier i ≡ pos 0)
-    → lowAfter P 1 ≡ lookAfter P 0 .dualValue
-unfolding lowAfter stateAfter start next lookAfter lookAt cheapestCost costOf
-first-low P some unstarted = max-cases _ _ (λ low. low ≡ lookAfter P 0 .dualValue) (λ _. refl) (λ _. sym begins)
-  where
-    at-zero : (i : ℕ) → i < P .limits → entering P 0 i ≡ pos 0
-    at-zero i l = entering-first P i l ∙ unstarted i l
+-- ---- the run of a problem with starts of 0
+module _ (P : Problem) (some : 1 ≤ P .scale)
+    (unstarted : (i : ℕ) → i < P .limits → P .startingMultiplier i ≡ pos 0) where
+  entering-zero : (i : ℕ) → i < P .limits → entering P 0 i ≡ pos 0
+  entering-zero i l = entering-first P i l ∙ unstarted i l
 
-    begins : dualValue P (entering P 0) (amounts P 0) ≡ pos (P .scale) *ℤ cheapestCost P
-    begins =
-        value-at-zero P (entering P 0) at-zero (amounts P 0)
-        ∙ ap (λ z. pos (P .scale) *ℤ z)
-        (sumTo-cong (P .materials) _ _ (λ j l.
-        ap (λ x. P .cost j *ℤ x) (amounts-are P 0 j l ∙ amount-at-zero P (entering P 0) at-zero some j)))
+  -- the dual value of step 0 is D times the cheapest cost
+  pub first-value : lookAfter P 0 .dualValue ≡ pos (P .scale) *ℤ cheapestCost P
+  unfolding lookAfter lookAt cheapestCost costOf
+  first-value =
+      value-at-zero P (entering P 0) entering-zero (amounts P 0)
+      ∙ ap (λ z. pos (P .scale) *ℤ z)
+      (sumTo-cong (P .materials) _ _ (λ j l.
+      ap (λ x. P .cost j *ℤ x) (amounts-are P 0 j l ∙ amount-at-zero P (entering P 0) entering-zero some j)))
+
+  -- so that it is low after step 0
+  pub first-low : lowAfter P 1 ≡ lookAfter P 0 .dualValue
+  unfolding lowAfter stateAfter startingState next lookAfter
+  first-low = max-cases _ _ (λ low. low ≡ lookAfter P 0 .dualValue) (λ _. refl) (λ _. sym first-value)

@@ -16,7 +16,7 @@ use Rattle.rules.specs.Notation.{at}
 use Rattle.rules.specs.Problem.{Problem}
 use Rattle.rules.specs.Sheet.{sheetOf, problem}
 use Rattle.rules.specs.Step.{greatestCost, cheapestCost, infeasible, next, diverged}
-use Rattle.rules.specs.Run.{start, stateAfter, lookAfter, lowAfter, gapOf}
+use Rattle.rules.specs.Run.{startingState, stateAfter, lookAfter, lowAfter, gapOf}
 use Rattle.rules.specs.Refusals.{firstBelow, layoutRefusal}
 use Rattle.rules.specs.Answers.{refusalAt, stepRefusal}
 use Rattle.proof_magnitudes.specs.Minimal.{minimal-within}
@@ -84,7 +84,7 @@ module _ {P : Problem} {k : ℕ} (a : Accepted P k) where
 
   -- ---- low is D times the cheapest cost before any step, and T4.6 keeps it in the range of the costs
   low-range : (t : ℕ) → stepRefusal P t ≡ none → InCostRange P (stateAfter P t .lowerBound)
-  unfolding stateAfter start cheapestCost
+  unfolding stateAfter startingState cheapestCost
   low-range zero h = cost-in-range P (cheapestEnd P) (minimal-within (a .ordered) (cheapest-minimal P))
   low-range (suc t) h = let (before, feasible, _) = not-refused P t h in low-next P t (low-range t before) feasible
 

@@ -9,7 +9,7 @@ use Rattle.proof_integer.specs.Vector.{at-tabulate}
 use Rattle.rules.specs.Notation.{sumTo, at}
 use Rattle.rules.specs.Problem.{Problem}
 use Rattle.rules.specs.Step.{reducedCost, amount, residual, lookAt, moved, next}
-use Rattle.rules.specs.Run.{start, stateAfter, lookAfter}
+use Rattle.rules.specs.Run.{startingState, stateAfter, lookAfter}
 use Rattle.proof_magnitudes.specs.Minimal.{AllMinimal, rule-minimal}
 
 module _ (P : Problem) where
@@ -25,7 +25,7 @@ module _ (P : Problem) where
 
   -- the starting multipliers enter step 0
   pub entering-first : (i : ℕ) → i < P .limits → entering 0 i ≡ P .startingMultiplier i
-  unfolding stateAfter start
+  unfolding stateAfter startingState
   entering-first i l = at-tabulate (P .limits) (P .startingMultiplier) i l
 
   -- ---- what a step works out, by its formulas
@@ -51,14 +51,14 @@ module _ (P : Problem) where
 
   -- ---- the totals
   pub sums-are : (k j : ℕ) → j < P .materials → at (stateAfter P k .sums) j ≡ sumTo k (λ t. amounts t j)
-  unfolding stateAfter start next sumTo lookAfter
+  unfolding stateAfter startingState next sumTo lookAfter
   sums-are zero j l = at-tabulate (P .materials) (λ _. pos 0) j l
   sums-are (suc k) j l =
       at-tabulate (P .materials) (λ j. at (stateAfter P k .sums) j +ℤ amounts k j) j l ∙ rw (sums-are k j l)
 
   pub totals-are : (k i : ℕ) → i < P .limits
       → at (stateAfter P k .residualTotals) i ≡ sumTo k (λ t. residual P (amounts t) i)
-  unfolding stateAfter start next sumTo lookAfter
+  unfolding stateAfter startingState next sumTo lookAfter
   totals-are zero i l = at-tabulate (P .limits) (λ _. pos 0) i l
   totals-are (suc k) i l =
       at-tabulate (P .limits) (λ i. at (stateAfter P k .residualTotals) i +ℤ residuals k i) i l

@@ -9,7 +9,7 @@ use Rattle.proof_integer.specs.Ring.{*ℤ-left-comm}
 use Rattle.rules.specs.Notation.{maxℤ}
 use Rattle.rules.specs.Problem.{Problem, Feasible, costOf}
 use Rattle.rules.specs.Step.{residual, dualValue, lookAt, cheapestCost, moved, next}
-use Rattle.rules.specs.Run.{start, stateAfter, lookAfter, lowAfter}
+use Rattle.rules.specs.Run.{startingState, stateAfter, lookAfter, lowAfter}
 use Rattle.proof_laws.specs.Below.{below-zero, below-suc}
 use Rattle.proof_magnitudes.specs.Minimal.{feasible-within}
 use Rattle.proof_magnitudes.specs.CostRange.{cost-above}
@@ -51,7 +51,7 @@ module _ (P : Problem) (start-sign : StartSign P) where
   -- T9.3: low is above the cost of no feasible point. D times the cheapest cost is not, and no dual value is
   pub low-below-costs : (k : ℕ) (d : ℤ) (y : ℕ → ℤ) → Feasible P d y
       → (d *ℤ lowAfter P k) ≤ℤ (pos (P .scale) *ℤ costOf P y)
-  unfolding lowAfter stateAfter start next lookAfter lookAt
+  unfolding lowAfter stateAfter startingState next lookAfter lookAt
   low-below-costs zero = λ d y f.
       rw (*ℤ-left-comm d (pos (P .scale)) (cheapestCost P))
       (*ℤ-mono-l (pos-nonneg (P .scale)) (cost-above P d y (feasible-within f)))

@@ -66,7 +66,8 @@ pub infeasible-S2 : NoneFeasible (fromSheet (S2 .sheet))
 unfolding Holds Margins
 infeasible-S2 = margins (S2 .sheet) (S2 .room) refl
 
--- ---- near claims that are false, each made by a must-fail edit: F1 to F3 at plain numbers, and the two sums at C2
+-- ---- near claims that are false, each made by a must-fail edit: F1 to F3 at plain numbers, and the two sums at C2 and
+-- at S7
 -- F1 by the other sign of the reduced cost, at one material of cost 1, from 0 to 1, with no limits
 abbrev one-material : Problem
 one-material = record {
@@ -103,10 +104,10 @@ pub size-cut-at-one : ((z : ℤ) → square (maxℤ (pos 1) z) ≤ℤ square z) 
 unfolding Holds
 size-cut-at-one claim = claim (pos 0) .le
 
--- at C2, the residual claim for the opening multiplier, and the squares claim with the residuals of no step
-pub residuals-below-opening : residual-left P₂ 1 ≤ℤ entering P₂ 0 0 → ⊥
+-- at C2, the residual claim for the starting multiplier, and the squares claim with the residuals of no step
+pub residuals-below-start : residual-left P₂ 1 ≤ℤ entering P₂ 0 0 → ⊥
 unfolding Holds
-residuals-below-opening claim = claim .le
+residuals-below-start claim = claim .le
 
 pub squares-of-one-step-less :
     squares-left P₂ 1 (pos 0)

@@ -133,6 +133,9 @@ ends =
     refusal-row (encode 1 1 1 1 1 (192 ∶ pos 1001 ∷ [])) 42 Value 0 "refused 6 0\n" ∷
     refusal-row (encode 1 1 1 1 1 (193 ∶ neg 32000001 ∷ [])) 42 Value 0 "refused 6 0\n" ∷
     refusal-row (encode 1 1 1 1 1 (192 ∶ pos 1 ∷ 193 ∶ pos 32000001 ∷ [])) 42 Value 1 "refused 6 1\n" ∷
+    -- starts of 0 and of −1
+    refusal-row (encode 1 1 1 1 1 (194 ∶ pos 0 ∷ [])) 42 Value 0 "refused 6 0\n" ∷
+    refusal-row (encode 1 1 1 1 1 (194 ∶ neg 1 ∷ [])) 42 Value 0 "refused 6 0\n" ∷
     -- a multiplier of 325·3,303,821 = 2^30 + 1, at the second limit
     refusal-row (encode 1 2 325 1 1 (257 ∶ neg 3303821 ∷ [])) 50 Diverged 0 "refused 10 0\n" ∷
     -- every figure at an end of its range: cost −10,000, least 1, most 1,000, a 1,000, b −32,000,000
@@ -159,6 +162,8 @@ pub ends-hold : AllHold ends
 unfolding Holds AllHold
 ends-hold =
     (refl, refl, refl, refl)
+    and (refl, refl, refl, refl)
+    and (refl, refl, refl, refl)
     and (refl, refl, refl, refl)
     and (refl, refl, refl, refl)
     and (refl, refl, refl, refl)

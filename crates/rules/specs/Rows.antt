@@ -18,7 +18,7 @@ use Rattle.rules.specs.Ranges.{ranges, indexOf, rangeOf, kindAt, inRange
 use Rattle.rules.specs.Ranges.{parametersInRange}
 use Rattle.rules.specs.Step.{anyBelow, reducedCost, amount, residual, dualValue, lookAt, greatestCost}
 use Rattle.rules.specs.Step.{cheapestCost, infeasible, moved, next, diverged}
-use Rattle.rules.specs.Run.{start, stateAfter, lookAfter, lowAfter, gapOf, planAfter}
+use Rattle.rules.specs.Run.{startingState, stateAfter, lookAfter, lowAfter, gapOf, planAfter}
 use Rattle.rules.specs.Record.{recordOf, recordLength, recorded, holdsRecord}
 use Rattle.rules.specs.Refusals.{numberOf, numbered, refuse, _otherwise_, firstBelow, noFigureAt, notAbove}
 use Rattle.rules.specs.Refusals.{badKey, valueBad, badValue, crossed, sizesRefusal, keyRefusal, valueRefusal}
@@ -99,7 +99,7 @@ unfolding
     headerLength isZero laid laidOut picked keysOf written entered nibble unspaced pairs outcome numbered numberOf maxℤ
     sumTo tabulate costOf loadOf unsignedAt signedOf signedAt unsignedBytes signedBytes valueUnder problemFrom ranges
     indexOf rangeOf kindAt inRange between dimensionsInRange parametersInRange anyBelow reducedCost amount residual
-    dualValue lookAt greatestCost cheapestCost infeasible moved next diverged start stateAfter
+    dualValue lookAt greatestCost cheapestCost infeasible moved next diverged startingState stateAfter
     lookAfter lowAfter gapOf planAfter recordOf recordLength recorded holdsRecord refuse _otherwise_ firstBelow
     noFigureAt notAbove badKey valueBad badValue crossed sizesRefusal keyRefusal valueRefusal boundRefusal layoutRefusal
     refusalAt stepRefusal planRefusal outcomeOf planOf refusal answerTo answer bufferOf bufferAfter text digits decimal

@@ -27,8 +27,8 @@ pub record Plan : Type 0 where
 
 module _ (P : Problem) where
   -- The state before any step. T4.1: multipliers begin at the starts. T5.3: low begins at D·cheapest cost.
-  unfoldable pub start : State
-  start = record {
+  unfoldable pub startingState : State
+  startingState = record {
     multipliers = tabulate (P .limits) (P .startingMultiplier);
     sums = tabulate (P .materials) (λ j. pos 0);
     residualTotals = tabulate (P .limits) (λ i. pos 0);
@@ -37,7 +37,7 @@ module _ (P : Problem) where
 
   -- T5.7, the state after t steps, whether or not one of them is refused: `stepRefusal` says where the run ends
   unfoldable pub stateAfter : ℕ → State
-  stateAfter zero = start
+  stateAfter zero = startingState
   stateAfter (suc t) = next P (stateAfter t)
 
   -- the look at the multipliers after t steps: what step t works out

@@ -65,7 +65,7 @@ module _ (P : Problem) where
   unfoldable pub greatestCost : ℤ
   greatestCost = costOf P (λ j. cond (ltZ (pos 0) (P .cost j)) (P .most j) (P .least j))
 
-  -- T5.3, the cheapest cost within the bounds: u_j where c_j < 0, else l_j
+  -- T5.3, B, the cheapest cost within the bounds: u_j where c_j < 0, else l_j
   unfoldable pub cheapestCost : ℤ
   cheapestCost = costOf P (λ j. cond (ltZ (P .cost j) (pos 0)) (P .most j) (P .least j))
 

@@ -1,4 +1,4 @@
-// The run: k steps from the start, or refusals 9 and 10.
+// The run: k steps from the starting multipliers, or refusals 9 and 10.
 ghost use Rattle.rules.specs.Answers.{stepRefusal};
 ghost use Rattle.sheet_figures.specs.Figures.{problemOf};
 ghost use Rattle.run_step.specs.Reached.{FiguresReady};
@@ -10,7 +10,7 @@ use run_step::State;
 use run_step::Stepped;
 use sheet_figures::Figures;
 
-// k steps from the starting multipliers, where low is D times the cheapest cost.
+// All steps, from the starting multipliers and D times the cheapest cost as low.
 pub fn run(f: Figures, coefficient: &[i16; 512]) -> Stepped
     requires { ⌜ FiguresReady f (now coefficient) ⌝ }
     ensures { λ r. ⌜ AfterSteps (problemOf f (now (coefficient .entry))) (f .steps)

@@ -40,7 +40,7 @@ const RANGES: [Range; 6] = [
     // the rows of the limits, column n + 1: start
     Range {
         kind: Kind::Start,
-        least: 1, // 0 has no entry
+        least: 1, // a start of 0 has no entry
         greatest: 1073741824,
     },
 ];

@@ -8,7 +8,7 @@ use mir.Facts.{toZ-ofZ}
 use borrow.Author.Needs.{needs}
 use Rattle.rules.specs.Problem.{costOf}
 use Rattle.rules.specs.Step.{greatestCost, cheapestCost}
-use Rattle.rules.specs.Run.{start, stateAfter}
+use Rattle.rules.specs.Run.{startingState, stateAfter}
 use Rattle.rules.specs.Answers.{stepRefusal}
 use Rattle.proof_laws.specs.FirstPlace.{first-start}
 use Rattle.sheet_figures.specs.Padded.{padded-zero}
@@ -64,7 +64,7 @@ module _ (c : tie.After-starts Inv-loop μ-loop) where
 
 -- the multipliers are the starts, every total is 0, and low is D times the cheapest cost
 loop-holds : tie.Need-loop-holds Inv-loop μ-loop
-unfolding stepRefusal stateIn stateAfter start cheapestCost costOf
+unfolding stepRefusal stateIn stateAfter startingState cheapestCost costOf
 loop-holds c =
     let f = s c .args .t1 in
     let cheapest = at-cheapest c .cheapest-value in

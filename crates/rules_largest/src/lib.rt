@@ -1,0 +1,1 @@
+// No code: a worked sheet of the largest sizes stands in specs/.
