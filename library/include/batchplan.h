@@ -21,8 +21,9 @@
  * and limit i says that the sum of a times amount is at most b. Its multiplier, kept times D, begins at the start.
  *
  * To go on next week where a plan ends: give each limit of the new sheet the closing multiplier of the old record as
- * its start, and no entry where that is 0. Both are times D, so that the new sheet keeps D, and the units of costs and
- * limits too. Low and gap hold for any starts, but starts near the limits' prices make the better plan:
+ * its start, under the key 64 (3 + i) + n + 1 for limit i, and no entry where that is 0. Each start is an entry more,
+ * in e and in the order of the keys. Both are times D, so that the new sheet keeps D, and the units of costs and limits
+ * too. Low and gap hold for any starts, but starts near the limits' prices make the better plan:
  * examples/glass_next.txt shows by how much.
  *
  * The functions are proved: for every sheet and every buffer, their numbers and every byte that they leave are those of
@@ -59,8 +60,8 @@ extern "C" {
  * The version of the rules that this header is for (T10.5). It goes up by one when an answer, a length or the layout of
  * a record changes. Where batchplan_version() gives another number, the library was not made for this header.
  *
- * Version 2 has the starts, and longer sheets with them. A sheet that version 1 reads has no starts, and its answer and
- * its record are what they were.
+ * Version 2 has the starts, and longer sheets with them: 3852 bytes in place of 3756. A sheet that version 1 reads has
+ * no starts, and its answer and its record are what they were.
  */
 #define BATCHPLAN_VERSION 2
 

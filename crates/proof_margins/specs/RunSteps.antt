@@ -48,7 +48,7 @@ module _ (P : Problem) (start-sign : StartSign P) where
   pub steps : (k : ℕ) → Steps P k (entering P) (amounts P)
   steps k t _ = facts t
 
-  -- T9.3: low is above the cost of no feasible point. D times the cheapest cost is not, and no dual value is
+  -- T9.3: low is above the cost of no feasible point, since neither D times the cheapest cost nor any dual value is
   pub low-below-costs : (k : ℕ) (d : ℤ) (y : ℕ → ℤ) → Feasible P d y
       → (d *ℤ lowAfter P k) ≤ℤ (pos (P .scale) *ℤ costOf P y)
   unfolding lowAfter stateAfter startingState next lookAfter lookAt
