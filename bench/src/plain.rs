@@ -51,22 +51,20 @@ impl Figures {
         *place = i64::from(value);
     }
 
-    fn dearest(&self) -> i64 {
+    fn cost_of(&self, amount: impl Fn(usize) -> i64) -> i64 {
         let mut cost = 0;
         for j in 0..self.size.n {
-            let end = if self.cost[j] > 0 { self.most[j] } else { self.least[j] };
-            cost += self.cost[j] * end;
+            cost += self.cost[j] * amount(j);
         }
         self.size.d * cost
     }
 
+    fn dearest(&self) -> i64 {
+        self.cost_of(|j| if self.cost[j] > 0 { self.most[j] } else { self.least[j] })
+    }
+
     fn cheapest(&self) -> i64 {
-        let mut cost = 0;
-        for j in 0..self.size.n {
-            let end = if self.cost[j] > 0 { self.least[j] } else { self.most[j] };
-            cost += self.cost[j] * end;
-        }
-        self.size.d * cost
+        self.cost_of(|j| if self.cost[j] > 0 { self.least[j] } else { self.most[j] })
     }
 }
 

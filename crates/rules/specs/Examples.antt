@@ -293,12 +293,29 @@ steps =
       bytes = hex "0100 0100 0200 fbffffffffffffff feffffffffffffff 06000000 02000000 0200000000000000";
       listing = text "steps 2\nmat 0 6\nlim 0 2 2\nlow -5\ngap -2\n";
     } ∷
+    -- Two limits with starts of their own, 4 and 1. D = 2: cost 3, most 5, −x ≤ −2 and −2x ≤ −7. By hand:
+    -- step 0: M = 4, 1; r = 6 − 4 − 2 = 0, a tie; x = 0; g = 2, 7; V = 4·2 + 1·7 = 15.
+    -- Closing M = 6, 8; S = 0; G = 2, 7; low 15; gap 0 − 15 = −15. With the starts exchanged r would be 6 − 1 − 8 = −3,
+    -- and with 4 for both 6 − 4 − 8 = −6, so that x would be 5.
+    record {
+      sheet =
+          encode 1 2 1 2 1
+          (0 ∶ pos 3 ∷ 128 ∶ pos 5 ∷ 192 ∶ neg 1 ∷ 193 ∶ neg 2 ∷ 194 ∶ pos 4
+          ∷ 256 ∶ neg 2 ∷ 257 ∶ neg 7 ∷ 258 ∶ pos 1 ∷ []);
+      room = 50;
+      answer = Plan (pos 15) (neg 15);
+      bytes =
+          hex "0100 0200 0100 0f00000000000000 f1ffffffffffffff 00000000 06000000 08000000"
+          ++ hex "0200000000000000 0700000000000000";
+      listing = text "steps 1\nmat 0 0\nlim 0 6 2\nlim 1 8 7\nlow 15\ngap -15\n";
+    } ∷
     []
 
 pub steps-hold : AllHold steps
 unfolding Holds AllHold
 steps-hold =
     (refl, refl, refl, refl)
+    and (refl, refl, refl, refl)
     and (refl, refl, refl, refl)
     and (refl, refl, refl, refl)
     and tt
