@@ -6,9 +6,9 @@ use lib.IntN.{ℤ, pos, _+ℤ_, _-ℤ_, _*ℤ_}
 use lib.Signed.{ltZ}
 use Rattle.proof_integer.specs.Sum.{sumTo-cong}
 use Rattle.proof_integer.specs.Vector.{tabulate-cong}
-use Rattle.rules.specs.Notation.{maxℤ, sumTo, tabulate, at}
+use Rattle.rules.specs.Notation.{anyBelow, maxℤ, sumTo, tabulate, at}
 use Rattle.rules.specs.Problem.{Problem, costOf, loadOf}
-use Rattle.rules.specs.Step.{State, anyBelow, reducedCost, amount, residual, dualValue, lookAt, greatestCost}
+use Rattle.rules.specs.Step.{State, reducedCost, amount, residual, dualValue, lookAt, greatestCost}
 use Rattle.rules.specs.Step.{cheapestCost, infeasible, moved, next, diverged}
 use Rattle.rules.specs.Run.{startingState, stateAfter, lookAfter, lowAfter, gapOf, planAfter}
 use Rattle.rules.specs.Refusals.{refuse, _otherwise_}

@@ -7,7 +7,7 @@ use native.Mathlib.Nat.{eq-or-lt-of-le, le-of-suc-le-suc, not-suc-le-zero}
 use native.Mathlib.Numerals.{add-one}
 use lib.Dec.{T}
 use mir.Facts.{or-no}
-use Rattle.rules.specs.Step.{anyBelow}
+use Rattle.rules.specs.Notation.{anyBelow}
 
 -- below 0 there is no place
 pub below-zero : (Q : ℕ → Type 0) → (i : ℕ) → i < 0 → Q i

@@ -1,6 +1,6 @@
 -- docs/TASK.md as definitions that compute. This is what a reader must believe; read it beside TASK.md, whose rules the
 -- comments name by anchor (T4.3), in this order:
---   Notation   −n, the test for 0, the larger of two, finite sums, lists by their places
+--   Notation   −n, the test for 0, the larger of two, finite sums, tests at some place, lists by their places
 --   Problem    materials, costs, bounds and limits; feasible points
 --   Bytes      little-endian numbers of a width
 --   Sheet      the layout of a batch sheet, and its figures by key
@@ -11,9 +11,12 @@
 --   Record     the bytes of a plan, and the plan that such bytes hold
 --   Refusals   the numbers of the refusals, and refusals 1 to 7
 --   Answers    the answer to a sheet, and the lent buffer afterwards
+--   Output     what a function that writes bytes answers, and the lent buffer afterwards
+--   Arrays     a sheet written from plain arrays
 --   Listing    the text of an answer, and what writing it to lent bytes gives
 --   Margins    the statement of T9.3 to T9.7
 --   Promise    T9, as planning a sheet keeps it
+--   ReadBack   what T13.7 to T13.10 say of a sheet that is written
 --   Version    the number that a caller can ask for
 -- The rest holds these definitions against worked sheets:
 --   Rows       how a table of sheets is written
@@ -45,9 +48,12 @@ pub mod Run
 pub mod Record
 pub mod Refusals
 pub mod Answers
+pub mod Output
+pub mod Arrays
 pub mod Listing
 pub mod Margins
 pub mod Promise
+pub mod ReadBack
 pub mod Version
 pub mod Rows
 pub mod Marked

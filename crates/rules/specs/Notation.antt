@@ -1,7 +1,7 @@
--- Notation that the definitions share: −n, the test for 0, the larger of two integers, finite sums, and lists by their
--- places.
+-- Notation that the definitions share: −n, the test for 0, the larger of two integers, finite sums, tests at some place,
+-- and lists by their places.
 use Prim.Native.Nat.{ℕ, zero, suc}
-use mathlib.Core.Bool.{Bool, cond}
+use mathlib.Core.Bool.{Bool, false, cond, _||_}
 use mathlib.Core.List.{List, [], _∷_}
 use lib.ListN.{getD}
 use lib.IntN.{ℤ, pos, natAbs, negℤ, _+ℤ_}
@@ -24,6 +24,11 @@ maxℤ x y = cond (leZ x y) y x
 unfoldable pub sumTo : ℕ → (ℕ → ℤ) → ℤ
 sumTo zero f = pos 0
 sumTo (suc n) f = sumTo n f +ℤ f n
+
+-- does a test hold at some place below n?
+unfoldable pub anyBelow : ℕ → (ℕ → Bool) → Bool
+anyBelow zero test = false
+anyBelow (suc n) test = anyBelow n test || test n
 
 -- the list of f 0 to f (n − 1)
 unfoldable pub tabulate {ℓ} : {A : Type ℓ} → ℕ → (ℕ → A) → List A

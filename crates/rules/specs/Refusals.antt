@@ -74,6 +74,10 @@ valueBad shape key value = isZero value || not (inRange (rangeOf (kindAt shape (
 unfoldable pub crossed : Table → ℕ → Bool
 crossed T j = ltZ (T (keyOf 2 j)) (T (keyOf 1 j))
 
+-- T7.4, refusal 7, at the first such material
+unfoldable pub boundRefusal : Shape → Table → Option Numbered
+boundRefusal shape T = firstBelow (shape .materials) (λ j. refuse 7 j (crossed T j))
+
 -- Of a sheet that has been read:
 module _ (S : Sheet) where
   -- T3.4, is the key of entry i not above the one before?
@@ -104,10 +108,6 @@ module _ (S : Sheet) where
   unfoldable pub valueRefusal : Option Numbered
   valueRefusal = firstBelow (S .entries) (λ i. refuse 6 i (badValue i))
 
-  -- T7.4, refusal 7, at the first such material
-  unfoldable pub boundRefusal : Option Numbered
-  boundRefusal = firstBelow (S .sizes .shape .materials) (λ j. refuse 7 j (crossed (tableOf S) j))
-
 -- T7.3, refusals 1 to 7 of a sheet's bytes by number, each tested over all of it before the next. T7.5: a sheet is read
 -- where there is none.
 unfoldable pub layoutRefusal : List ℕ → Option Numbered
@@ -117,4 +117,4 @@ layoutRefusal s =
     otherwise sizesRefusal S (length s)
     otherwise keyRefusal S
     otherwise valueRefusal S
-    otherwise boundRefusal S
+    otherwise boundRefusal (S .sizes .shape) (tableOf S)

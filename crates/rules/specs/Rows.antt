@@ -7,7 +7,7 @@ use mathlib.Core.List.{List, [], _∷_, _++_, map}
 use lib.ListN.{length, replicate, drop}
 use lib.IntN.{ℤ, pos}
 use lib.Dec.{ltb, eqb}
-use Rattle.rules.specs.Notation.{isZero, maxℤ, sumTo, tabulate}
+use Rattle.rules.specs.Notation.{isZero, maxℤ, sumTo, anyBelow, tabulate}
 use Rattle.rules.specs.declared.Sizes.{Sizes}
 use Rattle.rules.specs.declared.Answer.{Answer}
 use Rattle.rules.specs.Problem.{costOf, loadOf}
@@ -16,7 +16,7 @@ use Rattle.rules.specs.Sheet.{headerLength, Table, valueUnder, problemFr
 use Rattle.rules.specs.Encoder.{laidOut, sizesWith, picked, keysOf, written}
 use Rattle.rules.specs.Ranges.{ranges, indexOf, rangeOf, kindAt, inRange, between, dimensionsInRange}
 use Rattle.rules.specs.Ranges.{parametersInRange}
-use Rattle.rules.specs.Step.{anyBelow, reducedCost, amount, residual, dualValue, lookAt, greatestCost}
+use Rattle.rules.specs.Step.{reducedCost, amount, residual, dualValue, lookAt, greatestCost}
 use Rattle.rules.specs.Step.{cheapestCost, infeasible, moved, next, diverged}
 use Rattle.rules.specs.Run.{startingState, stateAfter, lookAfter, lowAfter, gapOf, planAfter}
 use Rattle.rules.specs.Record.{recordOf, recordLength, recorded, holdsRecord}

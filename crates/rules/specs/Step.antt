@@ -1,11 +1,11 @@
 -- TASK.md, T4: the dual subgradient method of source document 004, (7) and (8), with a step length that is constant. A
 -- step is a look at the multipliers that enter it, refusal 9, the move of the multipliers, refusal 10, and the totals.
-use Prim.Native.Nat.{ℕ, zero, suc}
-use mathlib.Core.Bool.{Bool, false, cond, _||_}
+use Prim.Native.Nat.{ℕ}
+use mathlib.Core.Bool.{Bool, cond}
 use mathlib.Core.List.{List}
 use lib.IntN.{ℤ, pos, _+ℤ_, _-ℤ_, _*ℤ_}
 use lib.Signed.{ltZ}
-use Rattle.rules.specs.Notation.{maxℤ, sumTo, tabulate, at}
+use Rattle.rules.specs.Notation.{anyBelow, maxℤ, sumTo, tabulate, at}
 use Rattle.rules.specs.Problem.{Problem, costOf, loadOf}
 
 -- T4.9, the state of the run: before any step, and after each.
@@ -27,11 +27,6 @@ pub record Look : Type 0 where
   pub residuals : List ℤ
   -- T4.5, V
   pub dualValue : ℤ
-
--- does a test hold at some place below n?
-unfoldable pub anyBelow : ℕ → (ℕ → Bool) → Bool
-anyBelow zero test = false
-anyBelow (suc n) test = anyBelow n test || test n
 
 -- In the formulas M is the multiplier of each limit, x the amount of each material, and g the residual of each limit.
 module _ (P : Problem) where

@@ -33,6 +33,12 @@ pub enum Answer {
     Refused(Refusal),
 }
 
+// The answer of a function that writes bytes to a lent buffer: how many it wrote, or a refusal.
+pub enum Output {
+    Wrote(usize),
+    Refused(Refusal),
+}
+
 // The shape of a sheet: n and m, how many materials and limits there are.
 pub struct Shape {
     pub materials: usize,

@@ -9,9 +9,9 @@ use lib.IntN.{ℤ, pos, _+ℤ_, _*ℤ_}
 use lib.Signed.{ltZ}
 use mir.Syntax.{w64}
 use mir.Val.{SFits}
-use Rattle.rules.specs.Notation.{tabulate, at}
+use Rattle.rules.specs.Notation.{anyBelow, tabulate, at}
 use Rattle.rules.specs.Problem.{Problem}
-use Rattle.rules.specs.Step.{anyBelow, moved, diverged}
+use Rattle.rules.specs.Step.{moved, diverged}
 use Rattle.proof_laws.specs.Below.{any-found}
 use Rattle.sheet_figures.specs.Figures.{problemIn}
 use Rattle.run_totals.specs.Changed.{Changed}

@@ -6,7 +6,8 @@ use Prim.Native.Nat.{ℕ, _≤_}
 use native.Mathlib.Omega.{arith}
 use lib.IntN.{ℤ}
 use lib.Signed.{ltZ}
-use Rattle.rules.specs.Sheet.{Sheet, tableOf}
+use Rattle.rules.specs.declared.Shape.{Shape}
+use Rattle.rules.specs.Sheet.{Table}
 use Rattle.rules.specs.Refusals.{Numbered, refuse, firstBelow, crossed, boundRefusal}
 use Rattle.proof_laws.specs.FirstPlace.{first-cong}
 use Rattle.sheet_table.specs.Tabled.{InTable, tableIn, tabled, same-figure}
@@ -19,15 +20,15 @@ pub record FewMaterials (n : ℕ) : Type 0 where
 unfoldable pub crossedRefusal : ℕ → List ℤ → Option Numbered
 crossedRefusal n table = firstBelow n (λ j. refuse 7 j (crossed (tableIn table) j))
 
--- the sheet's table in an array says the same
-pub crossed-is : (S : Sheet) → FewMaterials (S .sizes .shape .materials)
-    → crossedRefusal (S .sizes .shape .materials) (tabled (tableOf S)) ≡ boundRefusal S
+-- a table's array says the same
+pub crossed-is : (shape : Shape) (T : Table) → FewMaterials (shape .materials)
+    → crossedRefusal (shape .materials) (tabled T) ≡ boundRefusal shape T
 unfolding crossedRefusal boundRefusal crossed
-crossed-is S few =
-    first-cong (S .sizes .shape .materials) _ _ (λ j l.
+crossed-is shape T few =
+    first-cong (shape .materials) _ _ (λ j l.
     let narrow = few .narrow in
     let in-table : (row : ℕ) → row ≤ 2 → InTable row j =
     λ row r. record { row-in = omega arith; column-in = omega arith } in
-    let most = same-figure (in-table 2 (omega arith)) (tableOf S) in
-    let least = same-figure (in-table 1 (omega arith)) (tableOf S) in
+    let most = same-figure (in-table 2 (omega arith)) T in
+    let least = same-figure (in-table 1 (omega arith)) T in
     λ i. refuse 7 j (ltZ (most i) (least i)))

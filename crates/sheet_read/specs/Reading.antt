@@ -4,7 +4,7 @@ use mathlib.Core.List.{List}
 use mathlib.Core.Option.{Option, none, some}
 use lib.IntN.{ℤ}
 use Rattle.rules.specs.declared.Verdict.{Verdict}
-use Rattle.rules.specs.Sheet.{Sheet, problem}
+use Rattle.rules.specs.Sheet.{Sheet, tableOf, problem}
 use Rattle.rules.specs.Refusals.{Numbered, refusalOf, _otherwise_, valueRefusal, boundRefusal}
 use Rattle.sheet_figures.specs.declared.Figures.{Figures}
 use Rattle.sheet_figures.specs.Figures.{figuresOf, coefficientsOver, noFigures}
@@ -33,4 +33,4 @@ pub record Reads (S : Sheet) (refusal : Option Numbered) (lent after : List ℤ)
 
 -- refusals 6 and 7 of a sheet
 unfoldable pub figuresRefusal : Sheet → Option Numbered
-figuresRefusal S = valueRefusal S otherwise boundRefusal S
+figuresRefusal S = valueRefusal S otherwise boundRefusal (S .sizes .shape) (tableOf S)

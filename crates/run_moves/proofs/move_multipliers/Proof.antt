@@ -15,9 +15,9 @@ use borrow.Author.Needs.{needs}
 use Rattle.proof_integer.specs.Order.{≤ℤ-trans, max-left}
 use Rattle.proof_integer.specs.Range.{bnd-between, bnd-sfits, widened, widened-is, small-is}
 use Rattle.proof_integer.specs.Vector.{at-tabulate}
-use Rattle.rules.specs.Notation.{maxℤ, at}
+use Rattle.rules.specs.Notation.{anyBelow, maxℤ, at}
 use Rattle.rules.specs.Problem.{Problem}
-use Rattle.rules.specs.Step.{anyBelow, moved, diverged}
+use Rattle.rules.specs.Step.{moved, diverged}
 use Rattle.proof_laws.specs.Below.{any-start, any-more, any-found}
 use Rattle.run_moves.specs.Moves.{limitsMoved, tooLarge, places-all, places-found}
 use Rattle.run_totals.specs.Changed.{Changed, changed-start, changed-next, changed-end}

@@ -98,8 +98,8 @@ module _ (c : tie.After-check-bounds) where
   bounds =
       c .check-bounds .ensures
       ∙ (λ j. crossedRefusal (is (stored good) j .sizes .shape .materials) (table-is good j))
-      ∙ crossed-is (S (stored good)) (record { narrow = ranges .narrow })
-      ∙ sym (handed-on (boundRefusal (S (stored good))) (values good))
+      ∙ crossed-is (S (stored good) .sizes .shape) (tableOf (S (stored good))) (record { narrow = ranges .narrow })
+      ∙ sym (handed-on (boundRefusal _ _) (values good))
 
 returns-2 : tie.Need-returns-2
 unfolding refusalOf
