@@ -1,13 +1,15 @@
 -- Entries: the row and the column of a key (T3.1) decide a kind of figure (T3.2), and a good key stands for one.
-use mathlib.Core.Path.{_≡_, refl}
+use mathlib.Core.Path.{_≡_, refl, ap}
 use mathlib.Core.Bool.{Bool, true, false, not, cond, _&&_, _||_}
 use Prim.Native.Nat.{ℕ, suc, _+_, _<_, _≤_}
 use native.Mathlib.Omega.{arith}
 use borrow.Author.Tests.{eq-eqb, ne-eqb}
 use lib.Dec.{T, ltb, leb, eqb}
+use lib.IntN.{ℤ, pos, negsuc, natAbs}
 use mir.Facts.{or-no, ltb-no}
 use Rattle.rules.specs.declared.Shape.{Shape}
 use Rattle.rules.specs.declared.Kind.the-variants.{Coefficient, Rhs, Start}
+use Rattle.rules.specs.Notation.{isZero}
 use Rattle.rules.specs.Sheet.{Sheet, keyOf, rowOf, columnOf}
 use Rattle.rules.specs.Ranges.{kindAt}
 use Rattle.rules.specs.Refusals.{noFigureAt, notAbove, badKey}
@@ -39,6 +41,15 @@ module _ (shape : Shape) (i : ℕ) where
 
   pub start-kind : kindAt shape (3 + i) (n + 1) ≡ Start
   start-kind = rw (limit-kind, ne-eqb (n + 1) n (λ e. omega arith), eq-eqb (n + 1) (n + 1) refl)
+
+-- ---- the test for 0 is one of the absolute value
+pub nonzero : (v : ℤ) → (v ≡ pos 0 → ⊥) → isZero v ≡ false
+unfolding isZero
+nonzero v h = ne-eqb (natAbs v) 0 (λ e. h (zero-of v e))
+  where
+    zero-of : (v : ℤ) → natAbs v ≡ 0 → v ≡ pos 0
+    zero-of (pos k) e = ap pos e
+    zero-of (negsuc k) e = absurd (omega arith)
 
 -- ---- where a figure stands
 -- a figure's row is at most m + 2, and its column at most n + 1

@@ -7,6 +7,7 @@
 --   NotRefused   what follows where nothing is refused
 --   Given        what holds where a refusal with some number is given
 --   FirstPlace   the chain of refusals and the first place, as code meets them
+--   Outputs      how writing bytes to a lent buffer ends
 --   Agreeing     only the figures of the n materials and the m limits count
 pub mod Read
 pub mod Entries
@@ -16,4 +17,5 @@ pub mod Below
 pub mod NotRefused
 pub mod Given
 pub mod FirstPlace
+pub mod Outputs
 pub mod Agreeing

@@ -1,15 +1,15 @@
 -- What the tests that the code makes say of a key and of an entry.
-use mathlib.Core.Path.{_≡_, ap}
+use mathlib.Core.Path.{_≡_}
 use mathlib.Core.Bool.{true, false}
 use Prim.Native.Nat.{ℕ, _≤_, _<_}
-use native.Mathlib.Omega.{arith}
-use borrow.Author.Tests.{lt-ltb, le-ltb, ne-eqb}
-use lib.IntN.{ℤ, pos, negsuc, natAbs}
+use borrow.Author.Tests.{lt-ltb, le-ltb}
+use lib.IntN.{ℤ, pos}
 use Rattle.rules.specs.declared.Shape.{Shape}
 use Rattle.rules.specs.Notation.{isZero}
 use Rattle.rules.specs.Sheet.{rowOf, columnOf}
 use Rattle.rules.specs.Ranges.{rangeOf, kindAt, inRange}
 use Rattle.rules.specs.Refusals.{noFigureAt, valueBad}
+use Rattle.proof_laws.specs.Entries.{nonzero}
 use Rattle.proof_laws.specs.Read.{gives, refused, unless}
 use Rattle.sheet_entries.specs.KeyRead.{keyRead}
 use Rattle.sheet_entries.specs.EntryRead.{entryRead}
@@ -30,15 +30,6 @@ module _ (shape : Shape) (floor key : ℕ) where
     good-key l = rw (h, le-ltb key floor l)
 
 -- ---- an entry
--- the test for 0 is one of the absolute value
-nonzero : (v : ℤ) → (v ≡ pos 0 → ⊥) → isZero v ≡ false
-unfolding isZero
-nonzero v h = ne-eqb (natAbs v) 0 (λ e. h (zero-of v e))
-  where
-    zero-of : (v : ℤ) → natAbs v ≡ 0 → v ≡ pos 0
-    zero-of (pos k) e = ap pos e
-    zero-of (negsuc k) e = absurd (omega arith)
-
 module _ (shape : Shape) (key : ℕ) (value : ℤ) where
   pub no-entry : noFigureAt shape (rowOf key) (columnOf key) ≡ true → entryRead shape key value ≡ refused 5
   unfolding entryRead unless

@@ -1,4 +1,4 @@
-//! Plans batch sheets.
+//! Plans batch sheets, and writes them.
 //!
 //! A sheet has n materials with costs and bounds, m limits with their starting multipliers, a step length p/D and a
 //! step count k. Planning it takes k steps of a dual subgradient method in whole numbers, and gives the sums of the
@@ -6,42 +6,52 @@
 //! docs/TASK.md of the project states the layout of a sheet and every rule.
 //!
 //! The work is done by a library in Rattle that is proved to answer, for every sheet and every buffer, what these rules
-//! give. This crate declares its functions and makes them safe to call: every function here takes any bytes, and none
-//! panics, where the archive is of this version. The library is for x86-64 Linux.
+//! give. This crate declares its functions and makes them safe to call: every function here takes any bytes and any
+//! figures, and none panics, where the archive is of this version. The library is for x86-64 Linux.
+//!
+//! A [`Table`] is written to a sheet, and the sheet is planned:
 //!
 //! ```
-//! // one material of cost 5, from 4 to 4; a step of 1/1, and one step
-//! let mut sheet = Vec::new();
-//! for size in [1u16, 0, 3, 1, 1, 1] {
-//!     sheet.extend(size.to_le_bytes());
-//! }
-//! for key in [0u16, 64, 128] {
-//!     sheet.extend(key.to_le_bytes());
-//! }
-//! for value in [5i32, 4, 4] {
-//!     sheet.extend(value.to_le_bytes());
-//! }
-//! let plan = batchplan::Plan::of_sheet(&sheet).unwrap();
-//! assert_eq!((plan.low, plan.gap, &plan.sums[..]), (20, 0, &[4][..]));
-//! assert_eq!(batchplan::listing(&sheet), "steps 1\nmat 0 4\nlow 20\ngap 0\n");
+//! use batchplan::{listing, LimitRow, Material, Plan, Refusal, Steps, Table};
+//!
+//! // two materials, from 0 to 10 of each; twice the one and once the other make at least 12
+//! let steps = Steps { p: 1, d: 8, k: 4 };
+//! let materials =
+//!     vec![Material { cost: 3, least: 0, most: 10 }, Material { cost: 1, least: 0, most: 10 }];
+//! let limits = vec![LimitRow { coefficients: vec![-2, -1], rhs: -12, start: 0 }];
+//! let sheet = Table::new(steps, materials, limits)?.write()?;
+//!
+//! let plan = Plan::of_sheet(&sheet)?;
+//! assert_eq!((plan.low, plan.gap, &plan.sums[..]), (104, -16, &[10, 20][..]));
+//! let text = "steps 4\nmat 0 10\nmat 1 20\nlim 0 12 8\nlow 104\ngap -16\n";
+//! assert_eq!(listing(&sheet), text);
+//! # Ok::<(), Refusal>(())
 //! ```
+//!
+//! [`write_sheet`] does the same for plain slices, such as the rows of a spreadsheet.
 //!
 //! To go on next week where a plan ends, give each limit of the new sheet the closing multiplier of the old plan,
-//! [`Limit::multiplier`], as its start: under the key 64 (3 + i) + n + 1 for limit i, and with no entry where it is 0.
-//! Both are times D, so that the new sheet keeps D, and the units of costs and limits too.
+//! [`Limit::multiplier`], as its start, [`LimitRow::start`]. Both are times D, so that the new sheet keeps D, and the
+//! units of costs and limits too. In the bytes of a sheet the start of limit i has the key 64 (3 + i) + n + 1, and no
+//! entry where it is 0.
 #![warn(missing_docs)]
+
+mod table;
 
 use std::error::Error;
 use std::fmt;
 
-/// The version of the rules that this crate is for. Where [`version`] gives another number, the archive that was linked
-/// is not the one that this crate was written for.
+pub use table::{write_sheet, Arrays, LimitRow, Material, Sizes, Steps, Table};
+
+/// The version of the rules that this crate is for, and the first number of the crate's own. Where [`version`] gives
+/// another number, the archive that was linked is not the one that this crate was written for.
 ///
 /// Version 2 has the starts, and longer sheets with them. A sheet that version 1 reads has no starts, and its answer
 /// and its record are what they were.
 pub const VERSION: usize = 2;
 
-/// The length of the longest sheet. A longer one is refused.
+/// The length of the longest sheet. A longer one is refused; and a buffer of this length takes every sheet that is
+/// written, so that no table is refused with 8.
 pub const SHEET_BYTES: usize = 3852;
 
 /// The length of the longest record. A buffer of this length takes every record, so that no sheet is refused with 8.
@@ -69,6 +79,29 @@ extern "C" {
         text_bytes: usize,
     ) -> usize;
 
+    fn batchplan_write_sheet(
+        n: usize,
+        m: usize,
+        p: usize,
+        d: usize,
+        k: usize,
+        cost: *const i32,
+        costs: usize,
+        least: *const i32,
+        leasts: usize,
+        most: *const i32,
+        mosts: usize,
+        a: *const i32,
+        r#as: usize,
+        b: *const i32,
+        bs: usize,
+        start: *const i32,
+        starts: usize,
+        sheet: *mut u8,
+        sheet_bytes: usize,
+        length_or_place: *mut usize,
+    ) -> usize;
+
     fn batchplan_version() -> usize;
 }
 
@@ -79,13 +112,14 @@ pub fn version() -> usize {
     unsafe { batchplan_version() }
 }
 
-/// Why a sheet is refused: the refusals of docs/TASK.md, T7.4, with their numbers.
+/// Why a sheet is refused, or figures that are to be written to one: the refusals of docs/TASK.md, T7.4 and T13.4, with
+/// their numbers.
 #[non_exhaustive]
 #[derive(Clone, Copy, Debug, PartialEq, Eq, Hash)]
 pub enum Cause {
     /// The sheet has under 12 bytes.
     Short = 1,
-    /// n, m or the count of entries is outside its range.
+    /// n, m or the count of entries is outside its range, or an array's length is not what n and m ask for.
     Dimensions = 2,
     /// The sheet's length is not what its count of entries asks for.
     Length = 3,
@@ -93,11 +127,12 @@ pub enum Cause {
     Parameters = 4,
     /// An entry's key names no figure, or is not above the one before. The place is the entry.
     Key = 5,
-    /// An entry's value is 0 or outside its range. The place is the entry.
+    /// An entry's value is 0 or outside its range. The place is the entry. Of arrays: a figure is outside its range and
+    /// not 0, and the place is 0.
     Value = 6,
     /// A material's least amount is above its most amount. The place is the material.
     Bounds = 7,
-    /// The record buffer is too short. The place is the length that the record has.
+    /// The buffer is too short. The place is the length that the record has, or the sheet.
     Buffer = 8,
     /// No recipe keeps all bounds and limits ("no blend"). The place is the step.
     Infeasible = 9,
@@ -134,13 +169,13 @@ impl fmt::Display for Cause {
     fn fmt(&self, f: &mut fmt::Formatter) -> fmt::Result {
         f.write_str(match self {
             Cause::Short => "the sheet has under 12 bytes",
-            Cause::Dimensions => "n, m or the count of entries is outside its range",
+            Cause::Dimensions => "n, m, the count of entries or an array's length is out of range",
             Cause::Length => "the sheet's length does not fit its count of entries",
             Cause::Parameters => "p, D or k is outside its range",
             Cause::Key => "an entry's key names no figure or is out of order",
-            Cause::Value => "an entry's value is 0 or outside its range",
+            Cause::Value => "a figure is outside its range, or the value of an entry is 0",
             Cause::Bounds => "a material's least amount is above its most",
-            Cause::Buffer => "the record buffer is too short",
+            Cause::Buffer => "the buffer is too short",
             Cause::Infeasible => "no recipe keeps all bounds and limits",
             Cause::Diverged => "a multiplier ran away",
         })

@@ -1,0 +1,38 @@
+-- The lengths of the arrays, read off their test.
+use mathlib.Core.Path.{_≡_}
+use mathlib.Core.Bool.{true}
+use mathlib.Core.List.{List}
+use Prim.Native.Nat.{ℕ, _*_}
+use lib.Dec.{T}
+use lib.Ieee.Fits.{and-l, and-r}
+use lib.IntN.{ℤ}
+use lib.ListN.{length}
+use mir.Facts.{eqb-yes}
+use Rattle.rules.specs.declared.Shape.{Shape}
+use Rattle.rules.specs.Arrays.{Arrays, lengthsMatch}
+
+-- six arrays, as a caller lends them
+abbrev pub arrays : (costs leastAmounts mostAmounts coefficients rightHandSides starts : List ℤ) → Arrays
+arrays c l u a b s =
+    record { costs = c; leastAmounts = l; mostAmounts = u; coefficients = a; rightHandSides = b; starts = s }
+
+pub record LengthsMatch (shape : Shape) (A : Arrays) : Type 0 where
+  pub costs : length (A .costs) ≡ shape .materials
+  pub leastAmounts : length (A .leastAmounts) ≡ shape .materials
+  pub mostAmounts : length (A .mostAmounts) ≡ shape .materials
+  pub coefficients : length (A .coefficients) ≡ shape .materials * shape .limits
+  pub rightHandSides : length (A .rightHandSides) ≡ shape .limits
+  pub starts : length (A .starts) ≡ shape .limits
+
+pub lengths-match : (shape : Shape) (A : Arrays) → lengthsMatch shape A ≡ true → LengthsMatch shape A
+unfolding lengthsMatch
+lengths-match shape A h =
+    let t : T (lengthsMatch shape A) = rw h tt in
+    record {
+      costs = search (and-l, and-r, eqb-yes);
+      leastAmounts = search (and-l, and-r, eqb-yes);
+      mostAmounts = search (and-l, and-r, eqb-yes);
+      coefficients = search (and-l, and-r, eqb-yes);
+      rightHandSides = search (and-l, and-r, eqb-yes);
+      starts = search (and-l, and-r, eqb-yes);
+    }

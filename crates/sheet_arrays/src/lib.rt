@@ -1,0 +1,1 @@
+// Theorems only: see specs/Lib.antt.

@@ -1,0 +1,44 @@
+-- Sheets that are read and tables that are not refused are the same: here from the sheet to the table.
+use mathlib.Core.Path.{_≡_, sym, ap, _∙_}
+use mathlib.Core.List.{List}
+use mathlib.Core.Option.{none}
+use Prim.Native.Nat.{ℕ}
+use lib.ListN.{getD}
+use mir.Syntax.{w8, w32}
+use mir.Val.{Fits, SFits}
+use mir.Facts.{sfits-lit}
+use Rattle.bytes_read.specs.Width.{unsigned-below, signed-below}
+use Rattle.rules.specs.Bytes.{signedAt}
+use Rattle.rules.specs.Sheet.{sheetOf, tableOf}
+use Rattle.rules.specs.Refusals.{layoutRefusal}
+use Rattle.rules.specs.Arrays.{tableRefusal}
+use Rattle.rules.specs.ReadBack.{unplaced}
+use Rattle.sheet_written.specs.Under.{under-all}
+use Rattle.sheet_written.specs.ReadBack.{Fit}
+use Rattle.sheet_written.specs.Accepted.{accepted-single, accepted-shaped}
+use Rattle.sheet_written.specs.Refused.{written-refused}
+
+module _ (s : List ℕ) (bytes : (i : ℕ) → Fits w8 (getD s i 0)) where
+  -- the sizes and the table of any bytes fit a sheet
+  bytes-fit : Fit (sheetOf s .sizes) (tableOf (sheetOf s))
+  unfolding signedAt
+  bytes-fit = record {
+    sizes = record {
+      materials = unsigned-below s bytes 2 0;
+      limits = unsigned-below s bytes 2 2;
+      numerator = unsigned-below s bytes 2 6;
+      scale = unsigned-below s bytes 2 8;
+      steps = unsigned-below s bytes 2 10;
+    };
+    values = λ q l.
+        under-all (sheetOf s) (SFits w32) (sfits-lit tt) (sheetOf s .entries)
+        (λ i m. record { sfits = signed-below 3 _ (unsigned-below s bytes 4 _) }) q;
+  }
+
+  -- the table of a sheet that is read is not refused
+  pub table-accepted : layoutRefusal s ≡ none → tableRefusal (sheetOf s .sizes) (tableOf (sheetOf s)) ≡ none
+  unfolding unplaced
+  table-accepted h =
+      sym (written-refused (sheetOf s .sizes) (tableOf (sheetOf s)) bytes-fit (accepted-shaped s h))
+      ∙ ap (λ (r : List ℕ). unplaced (layoutRefusal r)) (accepted-single s bytes h)
+      ∙ ap unplaced h
