@@ -7,6 +7,7 @@ from programs import ROOT
 
 ARCHIVE = ROOT / "target" / "staticlib" / "libbatchplan_lib.a"
 HEADERS = ROOT / "library" / "include"
+WRONG_LIBRARIES = ROOT / "tests" / "solver" / "wrong_libraries.c"
 
 
 class Failed(Exception):

@@ -1,8 +1,9 @@
 /*
- * Libraries that are wrong on purpose, each in one thing. tests/archive must find every one.
+ * Libraries that are wrong on purpose, each in one thing. tests/archive must find every one that plans or lists, and
+ * tests/write every one that writes.
  *
- * NAME_plan stands for batchplan_plan and NAME_listing for batchplan_listing. Where there is only one of them, the
- * other is the archive's.
+ * NAME_plan stands for batchplan_plan, NAME_listing for batchplan_listing and NAME_write for batchplan_write_sheet.
+ * Where there is only one of them, the others are the archive's.
  */
 #include "batchplan.h"
 
@@ -174,3 +175,82 @@ LISTING(write_before_text)
     ((volatile uint8_t *)text)[-1] = 0;
     return RIGHT_LISTING;
 }
+
+#define WRITE(name)                                                                                                    \
+    size_t name##_write(size_t n, size_t m, size_t p, size_t d, size_t k, const int32_t *cost, size_t costs,           \
+                        const int32_t *least, size_t leasts, const int32_t *most, size_t mosts, const int32_t *a,      \
+                        size_t as, const int32_t *b, size_t bs, const int32_t *start, size_t starts, uint8_t *sheet,   \
+                        size_t sheet_bytes, size_t *length_or_place)
+#define RIGHT_WRITE                                                                                                    \
+    batchplan_write_sheet(n, m, p, d, k, cost, costs, least, leasts, most, mosts, a, as, b, bs, start, starts, sheet,  \
+                          sheet_bytes, length_or_place)
+
+/* Leaves the length or place as it was. */
+WRITE(unset_length)
+{
+    size_t own;
+    length_or_place = &own;
+    return RIGHT_WRITE;
+}
+
+/* Wants one byte more than the sheet has. */
+WRITE(wanted_too_high)
+{
+    size_t number = RIGHT_WRITE;
+    *length_or_place += number == BATCHPLAN_BUFFER;
+    return number;
+}
+
+/* Changes the byte after the sheet, where the buffer has one. */
+WRITE(byte_after_sheet)
+{
+    size_t number = RIGHT_WRITE;
+    if (number == BATCHPLAN_WRITTEN && *length_or_place < sheet_bytes) sheet[*length_or_place] ^= 1;
+    return number;
+}
+
+/* Leaves a byte of a refused sheet in the buffer. */
+WRITE(byte_of_refused_sheet)
+{
+    size_t number = RIGHT_WRITE;
+    if (number != BATCHPLAN_WRITTEN && sheet_bytes > 0) sheet[0] ^= 1;
+    return number;
+}
+
+/* Writes one byte outside the buffer, after it or before it. */
+WRITE(write_after_sheet)
+{
+    ((volatile uint8_t *)sheet)[sheet_bytes] = 0;
+    return RIGHT_WRITE;
+}
+
+WRITE(write_before_sheet)
+{
+    ((volatile uint8_t *)sheet)[-1] = 0;
+    return RIGHT_WRITE;
+}
+
+/* Reads one figure outside an array, after it or before it; or writes to the array. */
+#define ARRAY(array, length)                                                                                           \
+    WRITE(read_after_##array)                                                                                          \
+    {                                                                                                                  \
+        (void)((const volatile int32_t *)array)[length];                                                               \
+        return RIGHT_WRITE;                                                                                            \
+    }                                                                                                                  \
+    WRITE(read_before_##array)                                                                                         \
+    {                                                                                                                  \
+        (void)((const volatile int32_t *)array)[-1];                                                                   \
+        return RIGHT_WRITE;                                                                                            \
+    }                                                                                                                  \
+    WRITE(write_to_##array)                                                                                            \
+    {                                                                                                                  \
+        if (length > 0) *(volatile int32_t *)(uintptr_t)array = array[0];                                              \
+        return RIGHT_WRITE;                                                                                            \
+    }
+
+ARRAY(cost, costs)
+ARRAY(least, leasts)
+ARRAY(most, mosts)
+ARRAY(a, as)
+ARRAY(b, bs)
+ARRAY(start, starts)

@@ -6,13 +6,20 @@ ghost use lib.ListN.{length};
 ghost use Rattle.rules.specs.Record.{longestRecord};
 ghost use Rattle.rules.specs.Answers.{outcome};
 ghost use Rattle.rules.specs.Listing.{listing, Listed};
+ghost use Rattle.rules.specs.Output.{writing};
 ghost use Rattle.rules.specs.Version.{version};
+ghost use Rattle.sheet_arrays.specs.Lengths.{arrays};
 ghost use Rattle.batchplan_lib.specs.Called.{numbersOf, Called};
+ghost use Rattle.batchplan_lib.specs.Wrote.{sized, pairOf, Wrote};
 use out_layout::LONGEST;
 use out_listing::write_listing;
 use out_refusals::number_of;
 use planner::plan;
 use rules::Answer;
+use rules::Output;
+use rules::Shape;
+use rules::Sizes;
+use sheet_write::write_sheet;
 
 // The version of the rules that this library follows.
 const VERSION: usize = 2;
@@ -44,6 +51,32 @@ fn numbers_of(answer: Answer) -> Numbers
                 place: refusal.place,
                 low: 0,
                 gap: 0,
+            }
+        }
+    }
+}
+
+// What writing gives, in plain numbers: 0 and the length, or the number of the refusal and its place.
+struct Pair {
+    number: usize,
+    // the length, or the place
+    beside: usize,
+}
+
+// The numbers of what writing gives.
+fn pair_of(output: Output) -> Pair
+    ensures { λ r. ⌜ r ≡ pairOf (writing output) ⌝ }
+{
+    match output {
+        Output::Wrote(length) => Pair {
+            number: 0,
+            beside: length,
+        },
+        Output::Refused(refusal) => {
+            let cause = refusal.cause;
+            Pair {
+                number: number_of(cause),
+                beside: refusal.place,
             }
         }
     }
@@ -83,6 +116,45 @@ pub extern "C" fn batchplan_listing(sheet: &[u8], text: &mut [u8]) -> usize
     let mut record = [0u8; LONGEST];
     let answer = plan(sheet, &mut record);
     write_listing(answer, &record, text)
+}
+
+// Writes the sheet of plain arrays (TASK.md, T10.6): any numbers, into any buffer. It answers 0, with the length of the
+// sheet beside it and the sheet at the start of the buffer; and else the number of the refusal, with its place and the
+// buffer as it was.
+#[no_mangle]
+pub extern "C" fn batchplan_write_sheet(
+    n: usize,
+    m: usize,
+    p: usize,
+    d: usize,
+    k: usize,
+    cost: &[i32],
+    least: &[i32],
+    most: &[i32],
+    a: &[i32],
+    b: &[i32],
+    start: &[i32],
+    sheet: &mut [u8],
+    length_or_place: &mut usize,
+) -> usize
+    ensures { λ r. ⌜ Wrote (sized n m p d k) (arrays (now (cost .entry)) (now (least .entry)) (now (most .entry))
+        (now (a .entry)) (now (b .entry)) (now (start .entry)))
+        (now (sheet .entry)) (now (sheet .exit)) r (now («length_or_place» .exit)) ⌝ }
+{
+    let shape = Shape {
+        materials: n,
+        limits: m,
+    };
+    let sizes = Sizes {
+        shape: shape,
+        numerator: p,
+        scale: d,
+        steps: k,
+    };
+    let output = write_sheet(sizes, cost, least, most, a, b, start, sheet);
+    let pair = pair_of(output);
+    *length_or_place = pair.beside;
+    pair.number
 }
 
 // The version of the rules, by which a caller can tell a library that it was not written for (TASK.md, T10.5).

@@ -1,9 +1,9 @@
 -- What holds at every place below n.
-use mathlib.Core.Path.{_≡_, refl}
-use mathlib.Core.Bool.{Bool, true, false, not, or-true}
+use mathlib.Core.Path.{_≡_, refl, ap₂}
+use mathlib.Core.Bool.{Bool, true, false, not, _||_, or-true}
 use mathlib.Core.Logic.{inl, inr}
 use Prim.Native.Nat.{ℕ, zero, suc, _+_, _<_}
-use native.Mathlib.Nat.{eq-or-lt-of-le, le-of-suc-le-suc, not-suc-le-zero}
+use native.Mathlib.Nat.{eq-or-lt-of-le, le-of-suc-le-suc, not-suc-le-zero, le-step, lt-suc-self}
 use native.Mathlib.Numerals.{add-one}
 use lib.Dec.{T}
 use mir.Facts.{or-no}
@@ -16,6 +16,13 @@ below-zero Q i l = absurd (not-suc-le-zero l)
 -- what holds at every place below n, and at n, holds at every place below n + 1
 pub below-suc : (n : ℕ) (Q : ℕ → Type 0) → ((i : ℕ) → i < n → Q i) → Q n → (i : ℕ) → i < suc n → Q i
 below-suc n Q before here i l = elim (eq-or-lt-of-le (le-of-suc-le-suc l)) [ inl e ↦ rw e here | inr k ↦ before i k ]
+
+-- only the places below n count
+pub any-cong : (n : ℕ) (test other : ℕ → Bool) → ((i : ℕ) → i < n → test i ≡ other i)
+    → anyBelow n test ≡ anyBelow n other
+unfolding anyBelow
+any-cong zero test other h = refl
+any-cong (suc n) test other h = ap₂ _||_ (any-cong n test other (λ i l. h i (le-step l))) (h n (lt-suc-self n))
 
 -- where no place below n meets a test, each fails it
 pub any-none : (n : ℕ) (test : ℕ → Bool) → T (not (anyBelow n test)) → (i : ℕ) → i < n → T (not (test i))

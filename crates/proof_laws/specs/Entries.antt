@@ -1,9 +1,9 @@
 -- Entries: the row and the column of a key (T3.1) decide a kind of figure (T3.2), and a good key stands for one.
 use mathlib.Core.Path.{_≡_, refl, ap}
-use mathlib.Core.Bool.{Bool, true, false, not, cond, _&&_, _||_}
+use mathlib.Core.Bool.{Bool, true, false, not, cond, _&&_, _||_, or-true}
 use Prim.Native.Nat.{ℕ, suc, _+_, _<_, _≤_}
 use native.Mathlib.Omega.{arith}
-use borrow.Author.Tests.{eq-eqb, ne-eqb}
+use borrow.Author.Tests.{lt-ltb, le-leb, eq-eqb, ne-eqb}
 use lib.Dec.{T, ltb, leb, eqb}
 use lib.IntN.{ℤ, pos, negsuc, natAbs}
 use mir.Facts.{or-no, ltb-no}
@@ -62,6 +62,23 @@ figure-at shape row column h =
     let (outside, last) = or-no (ltb (shape .limits + 2) row || ltb (n + 1) column) (leb n column && leb row 2) t in
     let (r, c) = or-no (ltb (shape .limits + 2) row) (ltb (n + 1) column) outside in
     (ltb-no r, ltb-no c)
+
+-- ---- where none does
+module _ (shape : Shape) (row column : ℕ) where
+  -- past the materials, in the first three rows
+  pub past-materials : row ≤ 2 → shape .materials ≤ column → noFigureAt shape row column ≡ true
+  unfolding noFigureAt
+  past-materials r l = rw (le-leb (shape .materials) column l, le-leb row 2 r, or-true)
+
+  -- past the starts
+  pub past-starts : shape .materials + 1 < column → noFigureAt shape row column ≡ true
+  unfolding noFigureAt
+  past-starts l = rw (lt-ltb (shape .materials + 1) column l, or-true)
+
+  -- past the rows of the limits
+  pub past-limits : shape .limits + 2 < row → noFigureAt shape row column ≡ true
+  unfolding noFigureAt
+  past-limits l = rw (lt-ltb (shape .limits + 2) row l)
 
 -- does the key of entry i stand for no figure?
 abbrev pub noFigureFor : Sheet → ℕ → Bool

@@ -23,6 +23,7 @@
 --   Marked     C1 to C10
 --   Started    S1 to S9: sheets with starts
 --   Examples   the examples of the refusals, their order, the ends of the ranges, and steps worked by hand
+--   Drafts     W1 to W3: sheets written from arrays, and arrays that are refused
 --   Points     feasible points and points just outside; what T9.3 to T9.7 say in numbers; claims refuted
 -- Signs: `pos n` and `negsuc n` are the integers n and −(n + 1); `+ℤ -ℤ *ℤ` reckon with integers, and `≤ℤ <ℤ` compare
 -- them. `ltb leb eqb` test naturals for < ≤ =, and `ltZ leZ` integers for < ≤.
@@ -60,3 +61,4 @@ pub mod Marked
 pub mod Started
 pub mod Examples
 pub mod Points
+pub mod Drafts

@@ -17,6 +17,7 @@ use Rattle.proof_laws.specs.Sizes.{SizesInRange, dimensions}
 use Rattle.proof_laws.specs.FirstPlace.{refuse-yes, refuse-no, given, handed-on, first-cong}
 use Rattle.sheet_arrays.specs.Gathered.{least-at, most-at}
 use Rattle.sheet_arrays.specs.Lengths.{lengths-match}
+use Rattle.sheet_arrays.specs.Accepted.{arraysRefusal}
 use Rattle.sheet_arrays.specs.Tested.{arraysOutside, table-tested}
 
 -- n and m are small, so that no product wraps
@@ -31,10 +32,6 @@ amountsRefusal leasts mosts = firstBelow (length leasts) (λ j. refuse 7 j (ltZ 
 -- there is a most amount for each least
 pub record AsMany (leasts mosts : List ℤ) : Type 0 where
   pub as-many : length leasts ≡ length mosts
-
--- all of them
-unfoldable pub arraysRefusal : Sizes → Arrays → Option Numbered
-arraysRefusal z A = refuse 2 0 (not (lengthsMatch (z .shape) A)) otherwise tableRefusal z (gathered (z .shape) A)
 
 -- ---- the chain of these refusals, as code meets it
 module _ (z : Sizes) (A : Arrays) where

@@ -1,9 +1,9 @@
 -- The table of the arrays, at each row and column.
 use mathlib.Core.Path.{_≡_, refl, ap, _∙_}
-use mathlib.Core.Bool.{true, false, cond, or-true, or-false, and-false}
+use mathlib.Core.Bool.{true, false, cond, and-false}
 use Prim.Native.Nat.{ℕ, _+_, _-_, _*_, _<_, _≤_}
 use native.Mathlib.Omega.{arith}
-use borrow.Author.Tests.{lt-ltb, le-ltb, le-leb, lt-leb}
+use borrow.Author.Tests.{le-ltb, lt-leb}
 use lib.IntN.{ℤ, pos}
 use Rattle.rules.specs.Notation.{at}
 use Rattle.rules.specs.declared.Kind.{Kind}
@@ -14,7 +14,7 @@ use Rattle.rules.specs.Refusals.{noFigureAt}
 use Rattle.rules.specs.Arrays.{Arrays, figureOf, gathered}
 use Rattle.proof_laws.specs.Entries.{key-parts, coefficient-kind, rhs-kind, start-kind}
 
--- ---- where the shape has a figure, and where it has none
+-- ---- where the shape has a figure
 module _ (shape : Shape) (row column : ℕ) where
   abbrev n : ℕ
   n = shape .materials
@@ -28,18 +28,6 @@ module _ (shape : Shape) (row column : ℕ) where
   unfolding noFigureAt
   limit-there r s l =
       rw (le-ltb (shape .limits + 2) row s, le-ltb (n + 1) column l, lt-leb row 2 r, and-false)
-
-  pub past-materials : row ≤ 2 → n ≤ column → noFigureAt shape row column ≡ true
-  unfolding noFigureAt
-  past-materials r l = rw (le-leb n column l, le-leb row 2 r, or-true)
-
-  pub past-starts : n + 1 < column → noFigureAt shape row column ≡ true
-  unfolding noFigureAt
-  past-starts l = rw (lt-ltb (n + 1) column l, or-true)
-
-  pub past-limits : shape .limits + 2 < row → noFigureAt shape row column ≡ true
-  unfolding noFigureAt
-  past-limits l = rw (lt-ltb (shape .limits + 2) row l)
 
 -- ---- the table there
 module _ (shape : Shape) (A : Arrays) (row column : ℕ) (narrow : column < 64) where

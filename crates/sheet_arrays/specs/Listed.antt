@@ -14,9 +14,9 @@ use Rattle.rules.specs.Sheet.{Table, keyOf, rowOf, columnOf}
 use Rattle.rules.specs.Encoder.{allKeys}
 use Rattle.rules.specs.Refusals.{noFigureAt}
 use Rattle.rules.specs.Arrays.{Arrays, gathered}
-use Rattle.proof_laws.specs.Entries.{parts-key}
+use Rattle.proof_laws.specs.Entries.{parts-key, past-materials, past-starts, past-limits}
 use Rattle.sheet_arrays.specs.Runs.{Entry, entry, run, run-cong, run-none, run-split}
-use Rattle.sheet_arrays.specs.Gathered.{past-materials, past-starts, past-limits, gathered-none}
+use Rattle.sheet_arrays.specs.Gathered.{gathered-none}
 use Rattle.sheet_arrays.specs.Gathered.{cost-at, least-at, most-at, coefficient-at, rhs-at, start-at}
 
 -- ---- the entries of the arrays

@@ -3,7 +3,7 @@ use mathlib.Core.Path.{_≡_, refl, sym, ap, ap₂, _∙_}
 use mathlib.Core.Bool.{Bool, true, false, not, _&&_, _||_, or-false, or-assoc}
 use mathlib.Core.List.{List, [], _∷_, _++_}
 use Prim.Native.Nat.{ℕ, zero, suc, _+_, _*_, _<_, _≤_}
-use native.Mathlib.Nat.{le-step, lt-suc-self, zero-add, add-zero, add-suc, mul-zero, mul-suc}
+use native.Mathlib.Nat.{zero-add, add-zero, add-suc, mul-zero, mul-suc}
 use native.Mathlib.Omega.{arith}
 use lib.IntN.{ℤ, pos}
 use lib.ListN.{length}
@@ -16,6 +16,7 @@ use Rattle.rules.specs.Ranges.{rangeOf, kindAt, inRange}
 use Rattle.rules.specs.Encoder.{allKeys}
 use Rattle.rules.specs.Refusals.{valueBad}
 use Rattle.rules.specs.Arrays.{Arrays, gathered, figureBad}
+use Rattle.proof_laws.specs.Below.{any-cong}
 use Rattle.proof_laws.specs.Entries.{key-parts, coefficient-kind, rhs-kind, start-kind}
 use Rattle.sheet_arrays.specs.Runs.{Entry, entry, run}
 use Rattle.sheet_arrays.specs.Lengths.{LengthsMatch}
@@ -40,13 +41,7 @@ arraysOutside A =
     || anyOutside Start (A .starts)
 
 -- ---- tests at some place
-pub any-cong : (n : ℕ) (test other : ℕ → Bool) → ((i : ℕ) → i < n → test i ≡ other i)
-    → anyBelow n test ≡ anyBelow n other
-unfolding anyBelow
-any-cong zero test other h = refl
-any-cong (suc n) test other h = ap₂ _||_ (any-cong n test other (λ i l. h i (le-step l))) (h n (lt-suc-self n))
-
-pub any-split : (a b : ℕ) (test : ℕ → Bool) → anyBelow (a + b) test ≡ anyBelow a test || anyBelow b (λ j. test (a + j))
+any-split : (a b : ℕ) (test : ℕ → Bool) → anyBelow (a + b) test ≡ anyBelow a test || anyBelow b (λ j. test (a + j))
 unfolding anyBelow
 any-split a zero test = rw add-zero (sym (or-false (anyBelow a test)))
 any-split a (suc b) test = rw (add-suc, any-split a b test) (or-assoc (anyBelow a test) _ _)

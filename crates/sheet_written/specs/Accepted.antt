@@ -11,7 +11,7 @@ use mir.Syntax.{w8}
 use mir.Val.{Fits}
 use Rattle.proof_laws.specs.Entries.{noFigureFor, figure-at, good-key}
 use Rattle.proof_laws.specs.NotRefused.{otherwise-none, refuse-false, first-none}
-use Rattle.proof_laws.specs.Sizes.{dimensions}
+use Rattle.proof_laws.specs.Sizes.{SizesInRange, dimensions}
 use Rattle.rules.specs.Notation.{isZero}
 use Rattle.rules.specs.Sheet.{Sheet, sheetLength, sheetOf, rowOf, columnOf, tableOf}
 use Rattle.rules.specs.Encoder.{allKeys, written}
@@ -24,7 +24,7 @@ use Rattle.sheet_written.specs.Shaped.{Shaped}
 
 -- the tests that it passed
 record Passed (s : List ℕ) : Type 0 where
-  few : sheetOf s .sizes .shape .limits ≤ 16
+  in-range : SizesInRange (sheetOf s .sizes .shape) (sheetOf s .entries)
   long : length s ≡ sheetLength (sheetOf s .entries)
   keys : (i : ℕ) → i < sheetOf s .entries → badKey (sheetOf s) i ≡ false
   values : (i : ℕ) → i < sheetOf s .entries → badValue (sheetOf s) i ≡ false
@@ -40,7 +40,7 @@ passed s h =
     let (ranges, sizes) = otherwise-none _ _ sizes in
     let (long, parameters) = otherwise-none _ _ sizes in
     record {
-      few = dimensions _ _ (not-false _ (refuse-false 2 0 _ ranges)) .few;
+      in-range = dimensions _ _ (not-false _ (refuse-false 2 0 _ ranges));
       long = eqb-true _ _ (not-false _ (refuse-false 3 0 _ long));
       keys = λ i l. refuse-false 5 i _ (first-none _ _ keys i l);
       values = λ i l. refuse-false 6 i _ (first-none _ _ values i l);
@@ -76,7 +76,7 @@ sheetlike s f =
     record {
       long = f .long;
       rising = rising-keys S (f .keys);
-      low = λ i l. key-low S i (f .few) (f .keys i l);
+      low = λ i l. key-low S i (f .in-range .few) (f .keys i l);
       not-zero = λ i l. value-present S i (f .values i l);
     }
 
@@ -85,6 +85,10 @@ sheetlike s f =
 pub accepted-single : (s : List ℕ) → ((i : ℕ) → Fits w8 (getD s i 0)) → layoutRefusal s ≡ none
     → written (sheetOf s .sizes) (tableOf (sheetOf s)) ≡ s
 accepted-single s bytes h = single (sheetlike s (passed s h)) bytes
+
+-- its sizes are in their ranges
+pub accepted-sizes : (s : List ℕ) → layoutRefusal s ≡ none → SizesInRange (sheetOf s .sizes .shape) (sheetOf s .entries)
+accepted-sizes s h = passed s h .in-range
 
 -- and its table is 0 where its shape has no figure
 pub accepted-shaped : (s : List ℕ) → layoutRefusal s ≡ none → Shaped (sheetOf s .sizes .shape) (tableOf (sheetOf s))

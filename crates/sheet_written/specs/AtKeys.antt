@@ -8,6 +8,7 @@ use native.Mathlib.Nat.{le-step, lt-suc-self}
 use native.Mathlib.Omega.{arith}
 use lib.ListN.{length, getD, length-append, List·getD-append}
 use lib.Seq.{getD-append-seam}
+use Rattle.proof_laws.specs.Below.{any-cong}
 use Rattle.rules.specs.Notation.{anyBelow}
 use Rattle.rules.specs.Sheet.{Table}
 use Rattle.rules.specs.Encoder.{allKeys, keysOf}
@@ -22,13 +23,6 @@ unfolding firstBelow _otherwise_
 first-none-below zero test h = refl
 first-none-below (suc n) test h =
     ap₂ _otherwise_ (first-none-below n test (λ i l. h i (le-step l))) (h n (lt-suc-self n))
-
--- only the places below n count
-pub any-cong : (n : ℕ) (test other : ℕ → Bool) → ((i : ℕ) → i < n → test i ≡ other i)
-    → anyBelow n test ≡ anyBelow n other
-unfolding anyBelow
-any-cong zero test other h = refl
-any-cong (suc n) test other h = ap₂ _||_ (any-cong n test other (λ i l. h i (le-step l))) (h n (lt-suc-self n))
 
 -- a test that no figure 0 passes is passed at a key of the table where it is passed at all
 module _ (T : Table) (test : ℕ → Bool) (absent : (q : ℕ) → present (T q) ≡ false → test q ≡ false) where

@@ -14,31 +14,24 @@ use Rattle.rules.specs.Refusals.{layoutRefusal}
 use Rattle.rules.specs.Arrays.{tableRefusal}
 use Rattle.rules.specs.ReadBack.{unplaced}
 use Rattle.sheet_written.specs.Under.{under-all}
-use Rattle.sheet_written.specs.ReadBack.{Fit}
+use Rattle.sheet_written.specs.ReadBack.{SizesFit}
 use Rattle.sheet_written.specs.Accepted.{accepted-single, accepted-shaped}
 use Rattle.sheet_written.specs.Refused.{written-refused}
 
 module _ (s : List ℕ) (bytes : (i : ℕ) → Fits w8 (getD s i 0)) where
-  -- the sizes and the table of any bytes fit a sheet
-  bytes-fit : Fit (sheetOf s .sizes) (tableOf (sheetOf s))
-  unfolding signedAt
-  bytes-fit = record {
-    sizes = record {
-      materials = unsigned-below s bytes 2 0;
-      limits = unsigned-below s bytes 2 2;
-      numerator = unsigned-below s bytes 2 6;
-      scale = unsigned-below s bytes 2 8;
-      steps = unsigned-below s bytes 2 10;
-    };
-    values = λ q l.
-        under-all (sheetOf s) (SFits w32) (sfits-lit tt) (sheetOf s .entries)
-        (λ i m. record { sfits = signed-below 3 _ (unsigned-below s bytes 4 _) }) q;
+  -- the sizes of any bytes fit a sheet
+  pub sizes-fit : SizesFit (sheetOf s .sizes)
+  sizes-fit = record {
+    materials = unsigned-below s bytes 2 0;
+    limits = unsigned-below s bytes 2 2;
+    numerator = unsigned-below s bytes 2 6;
+    scale = unsigned-below s bytes 2 8;
+    steps = unsigned-below s bytes 2 10;
   }
 
-  -- the table of a sheet that is read is not refused
-  pub table-accepted : layoutRefusal s ≡ none → tableRefusal (sheetOf s .sizes) (tableOf (sheetOf s)) ≡ none
-  unfolding unplaced
-  table-accepted h =
-      sym (written-refused (sheetOf s .sizes) (tableOf (sheetOf s)) bytes-fit (accepted-shaped s h))
-      ∙ ap (λ (r : List ℕ). unplaced (layoutRefusal r)) (accepted-single s bytes h)
-      ∙ ap unplaced h
+  -- and so does their table
+  pub table-fits : (q : ℕ) → SFits w32 (tableOf (sheetOf s) q)
+  unfolding signedAt
+  table-fits q =
+      under-all (sheetOf s) (SFits w32) (sfits-lit tt) (sheetOf s .entries)
+      (λ i m. record { sfits = signed-below 3 _ (unsigned-below s bytes 4 _) }) q

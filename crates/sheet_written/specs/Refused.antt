@@ -12,6 +12,7 @@ use Rattle.proof_laws.specs.FirstPlace.{first-cong, refuse-no}
 use Rattle.proof_laws.specs.NotRefused.{refuse-false}
 use Rattle.proof_laws.specs.Sizes.{dimensions}
 use Rattle.rules.specs.declared.Sizes.{Sizes}
+use Rattle.proof_laws.specs.Below.{any-cong}
 use Rattle.rules.specs.Notation.{anyBelow}
 use Rattle.rules.specs.Sheet.{headerLength, sheetLength, Sheet, sheetOf, Table, keyOf, rowOf, columnOf, tableOf}
 use Rattle.rules.specs.Ranges.{dimensionsInRange, parametersInRange}
@@ -26,7 +27,7 @@ use Rattle.sheet_written.specs.Shaped.{Shaped}
 use Rattle.sheet_written.specs.Dimensions.{dimensions-decide}
 use Rattle.sheet_written.specs.Unplaced.{unplaced-none, unplaced-other, unplaced-places, unplaced-six}
 use Rattle.sheet_written.specs.Unplaced.{without, unplaced-each, last-counts}
-use Rattle.sheet_written.specs.AtKeys.{first-none-below, any-cong, any-keys}
+use Rattle.sheet_written.specs.AtKeys.{first-none-below, any-keys}
 
 -- ---- bytes of the right length that are read as a table of its shape
 module _ (z : Sizes) (T : Table) (r : List ℕ) (reads : ReadsTable z T r)

@@ -1,13 +1,12 @@
 -- A table of a shape, 0 wherever the shape has no figure, has no more entries than the shape has figures.
 use mathlib.Core.Path.{_≡_, ap, _∙_}
-use mathlib.Core.Bool.{Bool, true, false, or-true}
+use mathlib.Core.Bool.{Bool, true, false}
 use Prim.Native.Nat.{ℕ, zero, suc, _+_, _-_, _*_, _<_, _≤_}
 use native.Mathlib.Nat.{le-of-suc-le-suc, le-refl}
 use native.Mathlib.Omega.{arith}
-use borrow.Author.Tests.{lt-ltb, le-leb}
 use lib.IntN.{pos}
 use lib.ListN.{length}
-use Rattle.proof_laws.specs.Entries.{key-parts, parts-key}
+use Rattle.proof_laws.specs.Entries.{key-parts, parts-key, past-materials, past-starts, past-limits}
 use Rattle.rules.specs.declared.Shape.{Shape}
 use Rattle.rules.specs.Sheet.{Table, keyOf, rowOf, columnOf}
 use Rattle.rules.specs.Ranges.{mostEntries}
@@ -19,23 +18,6 @@ use Rattle.sheet_written.specs.Support.{present, absent-zero}
 -- a table is 0 where its shape has no figure
 unfoldable pub Shaped : Shape → Table → Type 0
 Shaped shape T = (q : ℕ) → q < allKeys → noFigureAt shape (rowOf q) (columnOf q) ≡ true → T q ≡ pos 0
-
--- ---- where a shape has no figure
-module _ (shape : Shape) (row column : ℕ) where
-  -- past the rows of the limits
-  no-row : shape .limits + 2 < row → noFigureAt shape row column ≡ true
-  unfolding noFigureAt
-  no-row h = rw (lt-ltb (shape .limits + 2) row h)
-
-  -- past the starts
-  no-column : shape .materials + 1 < column → noFigureAt shape row column ≡ true
-  unfolding noFigureAt
-  no-column h = rw (lt-ltb (shape .materials + 1) column h, or-true)
-
-  -- past the materials, in the first three rows
-  no-last : row ≤ 2 → shape .materials ≤ column → noFigureAt shape row column ≡ true
-  unfolding noFigureAt
-  no-last l h = rw (le-leb (shape .materials) column h, le-leb row 2 l, or-true)
 
 -- ---- counting row by row
 -- a row of which only the first w places pass a test adds at most w
@@ -86,11 +68,11 @@ module _ (shape : Shape) (T : Table) (narrow : shape .materials ≤ 32) (few : s
       let test : ℕ → Bool = λ q. present (T q) in
       let past : (q : ℕ) → (3 + m) * 64 ≤ q → q < allKeys → test q ≡ false =
       λ q a b.
-      let none = no-row shape (rowOf q) (columnOf q) (omega arith) in
+      let none = past-limits shape (rowOf q) (columnOf q) (omega arith) in
       rw (parts-key q) at (gap (rowOf q) (columnOf q) (omega arith) (omega arith) none) in
       let most : length (picked ((3 + m) * 64) test) ≤ n * 3 + (n + 2) * m =
       rows-high test n (n + 2) m (omega arith) (omega arith)
-      (λ row c l a b. gap row c (omega arith) b (no-last shape row c (le-of-suc-le-suc l) a))
-      (λ i c l a b. gap (3 + i) c (omega arith) b (no-column shape (3 + i) c (omega arith)))
+      (λ row c l a b. gap row c (omega arith) b (past-materials shape row c (le-of-suc-le-suc l) a))
+      (λ i c l a b. gap (3 + i) c (omega arith) b (past-starts shape (3 + i) c (omega arith)))
       m (le-refl m) in
       rw (picked-skip ((3 + m) * 64) allKeys test (omega arith) past) (omega arith)

@@ -16,8 +16,7 @@ use Rattle.proof_laws.specs.FirstPlace.{refuse-yes, refuse-no, given, handed-on
 use Rattle.proof_laws.specs.Outputs.{writes-refused, writes-all, too-short, long-enough}
 use Rattle.bytes_write.specs.Written.{written}
 use Rattle.sheet_arrays.specs.Lengths.{arrays}
-use Rattle.sheet_array_checks.specs.Checks.{arraysRefusal}
-use Rattle.sheet_write.specs.Tested.{refused-8, lengths-in, shape-in, few-present, wanted-is}
+use Rattle.sheet_arrays.specs.Accepted.{arraysRefusal, refused-8, lengths-in, shape-in, few-present, wanted-is}
 use Rattle.sheet_write.proofs.write_sheet.Statement.{statement}
 use Rattle.sheet_write.proofs.write_sheet.Tie as tie
 
