@@ -17,8 +17,8 @@ unfoldable pub pairOf : Writing → Pair
 pairOf (wrote n) = record { number = 0; beside = n }
 pairOf (refused r) = record { number = r .number; beside = r .place }
 
--- Writing the sheet of these sizes and arrays to a buffer that is `lent` at the call and `after` at the return, with the
--- numbers that the caller gets.
+-- Writing the sheet of these sizes and arrays to a buffer that is `lent` at the call and `after` at the return, with
+-- the numbers that the caller gets.
 pub record Wrote (z : Sizes) (A : Arrays) (lent after : List ℕ) (number beside : ℕ) : Type 0 where
   -- T13.4, T13.5: the numbers are those of what the rules say of writing it
   pub numbers : record { number = number; beside = beside }

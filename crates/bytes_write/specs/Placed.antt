@@ -21,8 +21,8 @@ in-first : (a : ℕ) (bytes p q : List ℕ) → a + length bytes ≤ length p
 unfolding writtenAt written
 in-first a bytes p q h =
     let past : length bytes ≤ length (drop a p) = rw length-drop (omega arith) in
-    rw (take-append-le a p q (omega arith), drop-append-le a p q (omega arith), drop-append-le (length bytes) (drop a p) q past)
-    (simp append-assoc)
+    let rest = drop-append-le (length bytes) (drop a p) q past in
+    rw (take-append-le a p q (omega arith), drop-append-le a p q (omega arith), rest) (simp append-assoc)
 
 -- bytes that lie in the second
 in-second : (k : ℕ) (bytes p q : List ℕ) → writtenAt (length p + k) bytes (p ++ q) ≡ p ++ writtenAt k bytes q

@@ -1,5 +1,5 @@
--- How writing bytes to a lent buffer ends: with a refusal and the buffer as lent, or with the bytes and then the rest as
--- lent.
+-- How writing bytes to a lent buffer ends: with a refusal and the buffer as lent, or with the bytes and then the rest
+-- as lent.
 use mathlib.Core.Path.{_≡_, refl, sym, ap, _∙_}
 use mathlib.Core.List.{List, _++_}
 use mathlib.Core.Option.{Option, none, some}

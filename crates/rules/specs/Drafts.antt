@@ -25,7 +25,8 @@ use Rattle.rules.specs.Rows.{sized, hex, nibble, unspaced, pairs, lent, 
 use Rattle.rules.specs.Marked.{C1}
 use Rattle.rules.specs.Listing.{text}
 
--- Sizes, arrays and the length of the lent buffer; and what must come out: the answer and the bytes, none for a refusal.
+-- Sizes, arrays and the length of the lent buffer; and what must come out: the answer, and the bytes (none for a
+-- refusal).
 pub record Draft : Type 0 where
   pub sizes : Sizes
   pub arrays : Arrays
@@ -61,9 +62,9 @@ unfolding
     crossed boundRefusal writing writingOf lentAfter shortBuffer lengthsMatch figureOf gathered figureBad tableRefusal
     sheetFrom writeRefusal nibble unspaced pairs text
 Written r =
-    (writingOf (sheetFrom (r .sizes) (r .arrays)) (writeRefusal (r .sizes) (r .arrays) (r .room)) ≡ writing (r .output)) ×
-    (lentAfter (sheetFrom (r .sizes) (r .arrays)) (lent (r .room)) (writing (r .output))
-    ≡ r .bytes ++ drop (length (r .bytes)) (lent (r .room)))
+    let bytes = sheetFrom (r .sizes) (r .arrays) in
+    (writingOf bytes (writeRefusal (r .sizes) (r .arrays) (r .room)) ≡ writing (r .output)) ×
+    (lentAfter bytes (lent (r .room)) (writing (r .output)) ≡ r .bytes ++ drop (length (r .bytes)) (lent (r .room)))
 
 -- every draft of a table
 unfoldable pub AllWritten : List Draft → Type 0
@@ -135,7 +136,8 @@ figures =
     refuses (sized 1 1 1 1 1) (one (pos 10001) (pos 0) (pos 0) (pos 0) (pos 0) (pos 0)) 18 Value 0 ∷
     refuses (sized 1 1 1 1 1) (one (pos 0) (neg 1) (pos 0) (pos 0) (pos 0) (pos 0)) 18 Value 0 ∷
     refuses (sized 1 1 1 1 1) (one (pos 0) (pos 0) (pos 0) (pos 0) (pos 0) (pos 1073741825)) 18 Value 0 ∷
-    refuses (sized 2 0 1 1 1) (arrays (pos 0 ∷ pos 0 ∷ []) (pos 1 ∷ pos 5 ∷ []) (pos 1 ∷ pos 4 ∷ []) [] [] []) 99 Bounds 1 ∷
+    refuses (sized 2 0 1 1 1) (arrays (pos 0 ∷ pos 0 ∷ []) (pos 1 ∷ pos 5 ∷ []) (pos 1 ∷ pos 4 ∷ []) [] [] []) 99
+    Bounds 1 ∷
     refuses (sized 2 1 1 8 4) figures-C1 53 Buffer 54 ∷
     -- 2 before 4, 4 before 6, 6 before 7, 7 before 8
     refuses (sized 1 1 0 1 1) (arrays [] [] [] [] [] []) 0 Dimensions 0 ∷

@@ -1,5 +1,5 @@
--- Notation that the definitions share: −n, the test for 0, the larger of two integers, finite sums, tests at some place,
--- and lists by their places.
+-- Notation that the definitions share: −n, the test for 0, the larger of two integers, finite sums, tests at some
+-- place, and lists by their places.
 use Prim.Native.Nat.{ℕ, zero, suc}
 use mathlib.Core.Bool.{Bool, false, cond, _||_}
 use mathlib.Core.List.{List, [], _∷_}

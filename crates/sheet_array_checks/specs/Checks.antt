@@ -33,14 +33,18 @@ amountsRefusal leasts mosts = firstBelow (length leasts) (λ j. refuse 7 j (ltZ 
 pub record AsMany (leasts mosts : List ℤ) : Type 0 where
   pub as-many : length leasts ≡ length mosts
 
+-- a refusal with the place 0
+abbrev pub at-start : ℕ → Numbered
+at-start number = record { number = number; place = 0 }
+
 -- ---- the chain of these refusals, as code meets it
 module _ (z : Sizes) (A : Arrays) where
   -- n or m is out of range
-  pub shape-refused : dimensionsInRange (z .shape) 0 ≡ false → arraysRefusal z A ≡ some (record { number = 2; place = 0 })
+  pub shape-refused : dimensionsInRange (z .shape) 0 ≡ false → arraysRefusal z A ≡ some (at-start 2)
   unfolding arraysRefusal tableRefusal
   shape-refused h = by (lengthsMatch (z .shape) A) refl
     where
-      by : (b : Bool) → lengthsMatch (z .shape) A ≡ b → arraysRefusal z A ≡ some (record { number = 2; place = 0 })
+      by : (b : Bool) → lengthsMatch (z .shape) A ≡ b → arraysRefusal z A ≡ some (at-start 2)
       by true l = handed-on _ (refuse-no 2 0 (ap not l)) ∙ given _ (refuse-yes 2 0 (ap not h))
       by false l = given _ (refuse-yes 2 0 (ap not l))
 
@@ -52,7 +56,7 @@ module _ (z : Sizes) (A : Arrays) where
     small = record { narrow = sizes .narrow; few = sizes .few }
 
     -- an array has another length
-    pub lengths-refused : lengthsMatch (z .shape) A ≡ false → arraysRefusal z A ≡ some (record { number = 2; place = 0 })
+    pub lengths-refused : lengthsMatch (z .shape) A ≡ false → arraysRefusal z A ≡ some (at-start 2)
     unfolding arraysRefusal
     lengths-refused l = given _ (refuse-yes 2 0 (ap not l))
 
@@ -71,18 +75,20 @@ module _ (z : Sizes) (A : Arrays) where
           otherwise refuse 6 0 (table-tested (z .shape) A (sizes .narrow) (sizes .few) (lengths-match _ _ lengths) t)
           otherwise bounds-are t)
         where
-          bounds-are : boundRefusal (z .shape) (gathered (z .shape) A) ≡ amountsRefusal (A .leastAmounts) (A .mostAmounts)
+          bounds-are : boundRefusal (z .shape) (gathered (z .shape) A)
+              ≡ amountsRefusal (A .leastAmounts) (A .mostAmounts)
           bounds-are = unfold boundRefusal crossed amountsRefusal in
+              let narrow = sizes .narrow in
               first-cong (z .shape .materials) _ _ (λ j l t.
-              refuse 7 j (ltZ (most-at (z .shape) A (sizes .narrow) j l t) (least-at (z .shape) A (sizes .narrow) j l t)))
+              refuse 7 j (ltZ (most-at (z .shape) A narrow j l t) (least-at (z .shape) A narrow j l t)))
               ∙ ap (λ (n : ℕ). firstBelow n (λ j. refuse 7 j (ltZ (at (A .mostAmounts) j) (at (A .leastAmounts) j))))
               (sym (lengths-match _ _ lengths .leastAmounts))
 
-      pub parameters-refused : parametersInRange z ≡ false → arraysRefusal z A ≡ some (record { number = 4; place = 0 })
+      pub parameters-refused : parametersInRange z ≡ false → arraysRefusal z A ≡ some (at-start 4)
       parameters-refused h = rest ∙ given _ (refuse-yes 4 0 (ap not h))
 
       module _ (parameters-in : parametersInRange z ≡ true) where
-        pub figures-refused : arraysOutside A ≡ true → arraysRefusal z A ≡ some (record { number = 6; place = 0 })
+        pub figures-refused : arraysOutside A ≡ true → arraysRefusal z A ≡ some (at-start 6)
         figures-refused h = rest ∙ handed-on _ (refuse-no 4 0 (ap not parameters-in)) ∙ given _ (refuse-yes 6 0 h)
 
         pub amounts-decide : arraysOutside A ≡ false

@@ -32,10 +32,12 @@ unfoldable pub sizeBytes : Sizes → ℕ → List ℕ
 sizeBytes z e = laid (unsignedBytes 2) (sizesWith z e)
 
 -- ---- laws of `laid`
-laid-append : {A : Type 0} (bytes : A → List ℕ) (xs ys : List A) → laid bytes (xs ++ ys) ≡ laid bytes xs ++ laid bytes ys
+laid-append : {A : Type 0} (bytes : A → List ℕ) (xs ys : List A)
+    → laid bytes (xs ++ ys) ≡ laid bytes xs ++ laid bytes ys
 unfolding laid
 laid-append bytes [] ys = refl
-laid-append bytes (x ∷ xs) ys = rw (laid-append bytes xs ys) (sym (append-assoc (bytes x) (laid bytes xs) (laid bytes ys)))
+laid-append bytes (x ∷ xs) ys =
+    rw (laid-append bytes xs ys) (sym (append-assoc (bytes x) (laid bytes xs) (laid bytes ys)))
 
 laid-map : {A B : Type 0} (bytes : B → List ℕ) (g : A → B) (xs : List A)
     → laid bytes (map g xs) ≡ laid (λ x. bytes (g x)) xs

@@ -43,7 +43,8 @@ run first zero f = []
 run first (suc count) f = run first count f ++ entry (first + count) (f count)
 
 -- ---- laws of runs
-pub run-cong : (first count : ℕ) (f g : ℕ → ℤ) → ((j : ℕ) → j < count → f j ≡ g j) → run first count f ≡ run first count g
+pub run-cong : (first count : ℕ) (f g : ℕ → ℤ) → ((j : ℕ) → j < count → f j ≡ g j)
+    → run first count f ≡ run first count g
 unfolding run
 run-cong first zero f g h = refl
 run-cong first (suc count) f g h =

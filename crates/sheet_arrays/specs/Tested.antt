@@ -90,7 +90,8 @@ module _ (shape : Shape) where
       ∙ ap₂ _||_ (any-run first count f) (any-entry (first + count) (f count))
 
   -- a run of figures of one kind in a row
-  row-tested : (row count : ℕ) (kind : Kind) (f : ℕ → ℤ) → count ≤ 64 → ((j : ℕ) → j < count → kindAt shape row j ≡ kind)
+  row-tested : (row count : ℕ) (kind : Kind) (f : ℕ → ℤ) → count ≤ 64
+      → ((j : ℕ) → j < count → kindAt shape row j ≡ kind)
       → anyIn (figureBad shape) (run (keyOf row 0) count f) ≡ anyBelow count (λ j. outside kind (f j))
   row-tested row count kind f narrow kinds =
       any-run (keyOf row 0) count f

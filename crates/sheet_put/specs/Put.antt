@@ -93,14 +93,16 @@ module _ {e c : ℕ} (xs ys : List Entry) {d : List ℕ} (room : EntriesRoom e c
         let both-keyed = writtenAt keys-at (kx ++ ky) d in
         let both-same : length both-keyed ≡ length d = length-placed keys-at (kx ++ ky) d
         (omega (arith, length-append kx ky, length-keys xs, length-keys ys, all, room .long)) in
-        let values = placed-on values-at vx vy both-keyed (omega (arith, both-same, length-values xs, all, room .long)) in
+        let values = placed-on values-at vx vy both-keyed
+        (omega (arith, both-same, length-values xs, all, room .long)) in
         record {
           buffer =
               second .buffer
               ∙ (λ t. writtenAt (value-place t) vy (writtenAt (key-place t) ky (first .buffer t)))
               ∙ ap (writtenAt (values-at + length vx) vy) (apart ∙ ap (writtenAt values-at vx) keys)
               ∙ values
-              ∙ (λ t. writtenAt values-at (sym (values-append xs ys) t) (writtenAt keys-at (sym (keys-append xs ys) t) d));
+              ∙ (λ t.
+              writtenAt values-at (sym (values-append xs ys) t) (writtenAt keys-at (sym (keys-append xs ys) t) d));
           count = second .count ∙ omega (arith, first .count, length-append xs ys);
         }
 
@@ -115,11 +117,13 @@ pub put-present : (e c key : ℕ) (figure : ℤ) {d d' d'' : List ℕ} → (figu
     → d'' ≡ writtenAt (12 + 2 * e + 4 * c) (signedBytes 4 figure) d' → Put e c (entry key figure) d d'' (c + 1)
 unfolding putEntries keyBytes valueBytes laid
 put-present e c key figure {d} there wrote-key wrote-value =
+    let values-at = 12 + 2 * e + 4 * c in
+    let key-bytes = sym (append-nil (unsignedBytes 2 key)) in
+    let value-bytes = sym (append-nil (signedBytes 4 figure)) in
     rw (entry-one key figure there) (record {
-      buffer = wrote-value
-          ∙ (λ t. writtenAt (12 + 2 * e + 4 * c) (sym (append-nil (signedBytes 4 figure)) t)
-          (wrote-key t))
-          ∙ ap (λ (k : List ℕ). writtenAt (12 + 2 * e + 4 * c) (signedBytes 4 figure ++ []) (writtenAt (12 + 2 * c) k d))
-          (sym (append-nil (unsignedBytes 2 key)));
+      buffer =
+          wrote-value
+          ∙ (λ t. writtenAt values-at (value-bytes t) (wrote-key t))
+          ∙ (λ t. writtenAt values-at (signedBytes 4 figure ++ []) (writtenAt (12 + 2 * c) (key-bytes t) d));
       count = refl;
     })

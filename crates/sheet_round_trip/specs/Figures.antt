@@ -38,7 +38,8 @@ module _ (z : Sizes) (A : Arrays) (U : Table) (narrow : z .shape .materials ≤ 
   -- and the other way: wherever the shape has a figure
   module _ (same : SameFigures (problemFrom z U) A) where
     -- in a limit's row
-    limit-figure : (i column : ℕ) → i < z .shape .limits → column ≤ n + 1 → U (keyOf (3 + i) column) ≡ T (keyOf (3 + i) column)
+    limit-figure : (i column : ℕ) → i < z .shape .limits → column ≤ n + 1
+        → U (keyOf (3 + i) column) ≡ T (keyOf (3 + i) column)
     unfolding problemFrom
     limit-figure i column few l = elim (eq-or-lt-of-le l) [
       | inl e ↦ rw e (same .startingMultiplier i few ∙ sym (start-at (z .shape) A narrow i few))
@@ -66,7 +67,8 @@ module _ (z : Sizes) (A : Arrays) (U : Table) (narrow : z .shape .materials ≤ 
         → U (keyOf row column) ≡ T (keyOf row column)
     unfolding problemFrom
     figures-at zero column h =
-        let l = material-column 0 column (omega arith) h in same .cost column l ∙ sym (cost-at (z .shape) A narrow column l)
+        let l = material-column 0 column (omega arith) h in
+        same .cost column l ∙ sym (cost-at (z .shape) A narrow column l)
     figures-at (suc zero) column h =
         let l = material-column 1 column (omega arith) h in
         same .least column l ∙ sym (least-at (z .shape) A narrow column l)

@@ -72,12 +72,14 @@ never h = let z : _≡_ {A = ℕ} 0 1 = cc in omega arith
 -- so does a figure that is not bad
 good-fits : (shape : Shape) (key : ℕ) (v : ℤ) → figureBad shape key v ≡ false → SFits w32 v
 unfolding figureBad valueBad
-good-fits shape key v h = by (isZero v) refl (inRange (rangeOf (kindAt shape (rowOf key) (columnOf key))) v) refl
+good-fits shape key v h = by (isZero v) refl (inRange (rangeOf kind) v) refl
   where
-    by : (z : Bool) → isZero v ≡ z → (inside : Bool) → inRange (rangeOf (kindAt shape (rowOf key) (columnOf key))) v ≡ inside
-        → SFits w32 v
+    kind : Kind
+    kind = kindAt shape (rowOf key) (columnOf key)
+
+    by : (z : Bool) → isZero v ≡ z → (inside : Bool) → inRange (rangeOf kind) v ≡ inside → SFits w32 v
     by true z inside r = rw (zero-is v z) (sfits-lit tt)
-    by false z true r = in-range-fits (kindAt shape (rowOf key) (columnOf key)) v (rw r tt)
+    by false z true r = in-range-fits kind v (rw r tt)
     by false z false r = absurd (never (sym h ∙ (λ t. not (z t) && (z t || not (r t)))))
 
 -- ---- what is not refused fits

@@ -65,9 +65,10 @@ unfolding sheetFrom
 single-sheet z A s bytes reads =
     let narrow : z .shape .materials ≤ 32 =
     subst (λ (y : Sizes). y .shape .materials ≤ 32) (reads .sizes) (accepted-sizes s (reads .accepted) .narrow) in
-    let figures = subst (λ (y : Sizes). SameFigures (problemFrom y (tableOf (sheetOf s))) A) (reads .sizes) (reads .figures) in
+    let U = tableOf (sheetOf s) in
+    let figures = subst (λ (y : Sizes). SameFigures (problemFrom y U) A) (reads .sizes) (reads .figures) in
     only-sheet z (gathered (z .shape) A) s (gathered-shaped (z .shape) A) bytes (reads .accepted) (reads .sizes)
-    (figures-at z A (tableOf (sheetOf s)) narrow figures)
+    (figures-at z A U narrow figures)
 
 -- T13.8: so writing what a sheet reads as gives the sheet back
 module _ (s : List ℕ) (bytes : (i : ℕ) → Fits w8 (getD s i 0)) (read : layoutRefusal s ≡ none) where
@@ -90,8 +91,14 @@ module _ (s : List ℕ) (bytes : (i : ℕ) → Fits w8 (getD s i 0)) (read : lay
   unfolding writeRefusal problemFrom unplaced
   again-accepted room long =
       let table : tableRefusal z (gathered (z .shape) A) ≡ none =
-      sym (refused-alike z A (sizes-fit s bytes)
-      (own-fit (problem (sheetOf s)) (λ j. fits _) (λ j. fits _) (λ j. fits _) (λ i j. fits _) (λ i. fits _) (λ i. fits _)))
+      sym (refused-alike z A (sizes-fit s bytes) (own-fit (problem (sheetOf s)) (record {
+        cost = λ j. fits _;
+        least = λ j. fits _;
+        most = λ j. fits _;
+        coefficient = λ i j. fits _;
+        rhs = λ i. fits _;
+        startingMultiplier = λ i. fits _;
+      })))
       ∙ ap (λ (r : List ℕ). unplaced (layoutRefusal r)) written-again
       ∙ ap unplaced read in
       handed-on _ (refuse-no 2 0 (ap not (own-lengths (problem (sheetOf s)))))

@@ -53,17 +53,23 @@ module _ (P : Problem) where
   unfolding arraysOf lengthsMatch
   own-lengths = simp (length-tabulate, eq-eqb)
 
--- figures of 32 bits
-pub own-fit : (P : Problem)
-    → ((j : ℕ) → SFits w32 (P .cost j)) → ((j : ℕ) → SFits w32 (P .least j)) → ((j : ℕ) → SFits w32 (P .most j))
-    → ((i j : ℕ) → SFits w32 (P .coefficient i j)) → ((i : ℕ) → SFits w32 (P .rhs i))
-    → ((i : ℕ) → SFits w32 (P .startingMultiplier i)) → FiguresFit (arraysOf P)
+-- ---- figures of 32 bits
+pub record ProblemFits (P : Problem) : Type 0 where
+  pub cost : (j : ℕ) → SFits w32 (P .cost j)
+  pub least : (j : ℕ) → SFits w32 (P .least j)
+  pub most : (j : ℕ) → SFits w32 (P .most j)
+  pub coefficient : (i j : ℕ) → SFits w32 (P .coefficient i j)
+  pub rhs : (i : ℕ) → SFits w32 (P .rhs i)
+  pub startingMultiplier : (i : ℕ) → SFits w32 (P .startingMultiplier i)
+
+pub own-fit : (P : Problem) → ProblemFits P → FiguresFit (arraysOf P)
 unfolding arraysOf
-own-fit P c l u a b s = record {
-  costs = tabulated-fits (P .materials) (P .cost) c;
-  leastAmounts = tabulated-fits (P .materials) (P .least) l;
-  mostAmounts = tabulated-fits (P .materials) (P .most) u;
-  coefficients = tabulated-fits (P .materials * P .limits) _ (λ x. a (x / P .materials) (x % P .materials));
-  rightHandSides = tabulated-fits (P .limits) (P .rhs) b;
-  starts = tabulated-fits (P .limits) (P .startingMultiplier) s;
+own-fit P f = record {
+  costs = tabulated-fits (P .materials) (P .cost) (f .cost);
+  leastAmounts = tabulated-fits (P .materials) (P .least) (f .least);
+  mostAmounts = tabulated-fits (P .materials) (P .most) (f .most);
+  coefficients =
+      tabulated-fits (P .materials * P .limits) _ (λ x. f .coefficient (x / P .materials) (x % P .materials));
+  rightHandSides = tabulated-fits (P .limits) (P .rhs) (f .rhs);
+  starts = tabulated-fits (P .limits) (P .startingMultiplier) (f .startingMultiplier);
 }

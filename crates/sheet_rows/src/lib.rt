@@ -109,9 +109,11 @@ pub fn put_entries(
     b: &[i32],
     start: &[i32],
 )
-    requires { ⌜ EntriesReady e shape (arrays (now cost) (now least) (now most) (now a) (now b) (now start)) (now sheet) ⌝ }
-    ensures { λ _. ⌜ now (sheet .exit) ≡ putEntries e 0 (entriesOf shape (arrays (now (cost .entry)) (now (least .entry))
-        (now (most .entry)) (now (a .entry)) (now (b .entry)) (now (start .entry)))) (now (sheet .entry)) ⌝ }
+    requires { ⌜ EntriesReady e shape (arrays (now cost) (now least) (now most) (now a) (now b) (now start))
+        (now sheet) ⌝ }
+    ensures { λ _. ⌜ now (sheet .exit) ≡ putEntries e 0 (entriesOf shape (arrays (now (cost .entry))
+        (now (least .entry)) (now (most .entry)) (now (a .entry)) (now (b .entry)) (now (start .entry))))
+        (now (sheet .entry)) ⌝ }
 {
     let n = shape.materials;
     let m = shape.limits;

@@ -39,7 +39,8 @@ returns : tie.Need-returns Inv-loop μ-loop
 unfolding anyOutside
 returns c =
     let a = c .before in
-    sym (any-found (test a) (length (turn a .before .args .figures .now)) (omega arith) (sym (tested a) ∙ c .if1 .taken))
+    let n = length (turn a .before .args .figures .now) in
+    sym (any-found (test a) n (omega arith) (sym (tested a) ∙ c .if1 .taken))
 
 loop-again : tie.Need-loop-again Inv-loop μ-loop
 loop-again c =
@@ -51,7 +52,8 @@ unfolding anyOutside
 returns-2 c =
     let a = c .before .before .args in
     let all : c .before .loop .i ≡ length (a .figures .now) = omega arith in
-    sym (ap (λ (n : ℕ). anyBelow n (λ i. outside (a .kind) (at (a .figures .now) i))) (sym all) ∙ c .before .loop .inv .1)
+    let none = c .before .loop .inv .1 in
+    sym (ap (λ (n : ℕ). anyBelow n (λ i. outside (a .kind) (at (a .figures .now) i))) (sym all) ∙ none)
 
 pub any-outside-spec : {M : Type 1} → statement M
 any-outside-spec =

@@ -11,7 +11,8 @@ use Rattle.sheet_rows.proofs.put_entries.Tie as tie
 
 module _ (s : tie.Start) where
   abbrev materials : List Entry
-  materials = materialEntries (s .args .shape .materials) (s .args .cost .now) (s .args .least .now) (s .args .most .now)
+  materials =
+      materialEntries (s .args .shape .materials) (s .args .cost .now) (s .args .least .now) (s .args .most .now)
 
   abbrev limits : List Entry
   limits =

@@ -38,7 +38,9 @@ module _ (s : tie.Start) where
   parts : materialEntries n (s .args .cost .now) (s .args .least .now) (s .args .most .now) ≡ costs ++ leasts ++ mosts
   unfolding materialEntries
   parts = λ t.
-      whole-is 0 n (s .args .cost .now) t ++ whole-is 64 n (s .args .least .now) t ++ whole-is 128 n (s .args .most .now) t
+      whole-is 0 n (s .args .cost .now) t
+      ++ whole-is 64 n (s .args .least .now) t
+      ++ whole-is 128 n (s .args .most .now) t
 
   room : EntriesRoom (s .args .e) 0 (length (costs ++ leasts ++ mosts)) (s .args .sheet .now)
   room = rw parts at (s .pre .room)
@@ -60,7 +62,8 @@ module _ (c : tie.After-put-run) where
   abbrev start : tie.Start
   start = c .before .before .before
 
-  abbrev first : Put (start .args .e) 0 (costs start) (start .args .sheet .now) (c .put-run .last .0) (c .put-run .result)
+  abbrev first : Put (start .args .e) 0 (costs start) (start .args .sheet .now)
+      (c .put-run .last .0) (c .put-run .result)
   first = c .put-run .ensures
 
 put-run-requires-2 : tie.Need-put-run-requires-2

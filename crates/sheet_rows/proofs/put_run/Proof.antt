@@ -22,7 +22,8 @@ record Turn (e count first : ℕ) (f : ℕ → ℤ) (n : ℕ) (d₀ d : List ℕ
 
 -- ---- figure j, where there is room for all
 module _ {e count first : ℕ} {f : ℕ → ℤ} {n : ℕ} {d₀ d : List ℕ} {entries j : ℕ}
-    (room : EntriesRoom e count (length (run first n f)) d₀) (turn : Turn e count first f n d₀ d entries j) (l : j < n) where
+    (room : EntriesRoom e count (length (run first n f)) d₀) (turn : Turn e count first f n d₀ d entries j)
+    (l : j < n) where
   with-it : EntriesRoom e count (length (run first j f ++ entry (first + j) (f j))) d₀
   unfolding run
   with-it = room-less _ room (run-grows first {j = suc j} f l)

@@ -26,7 +26,8 @@ module _ (c : tie.After-present-in3) where
 
   materials : c .before .before .present-in .result + c .before .present-in2 .result + c .present-in3 .result
       ≡ presentIn (start .args .cost .now) + presentIn (start .args .least .now) + presentIn (start .args .most .now)
-  materials = λ t. c .before .before .present-in .ensures t + c .before .present-in2 .ensures t + c .present-in3 .ensures t
+  materials = λ t.
+      c .before .before .present-in .ensures t + c .before .present-in2 .ensures t + c .present-in3 .ensures t
 
 add-materials-2 : tie.Need-add-materials-2
 add-materials-2 c = record { fits = omega (arith, few (start c), materials c) }
@@ -37,7 +38,8 @@ add-result c = record { fits = omega (arith, few (start (c .before)), materials 
 add-result-2 : tie.Need-add-result-2
 add-result-2 c =
     let upto = c .before .before in
-    record { fits = omega (arith, few (start upto), materials upto, c .before .present-in4 .ensures, c .present-in5 .ensures) }
+    let four = c .before .present-in4 .ensures in
+    record { fits = omega (arith, few (start upto), materials upto, four, c .present-in5 .ensures) }
 
 add-result-3 : tie.Need-add-result-3
 add-result-3 c =

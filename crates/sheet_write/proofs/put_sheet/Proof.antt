@@ -23,7 +23,8 @@ unfolding writtenAt
 put-entries-requires c κs =
     let sized = c .before .before .before in
     let s = sized .before .before .before .before in
-    let same = ap length (sized .put-sizes .ensures) ∙ sizes-fit (s .args .sizes) (A s) (s .args .sheet .now) (s .pre) in
+    let same =
+    ap length (sized .put-sizes .ensures) ∙ sizes-fit (s .args .sizes) (A s) (s .args .sheet .now) (s .pre) in
     let all = all-entries (s .args .sizes) (A s) (s .args .sheet .now) (s .pre) in
     record {
       room = record { few = s .pre .short; enough = omega (arith, all); long = omega (arith, same, s .pre .room) };

@@ -69,8 +69,9 @@ returns : tie.Need-returns
 unfolding numbered numberOf
 returns c =
     let counted = c .before in
+    let t = told counted in
     writes-refused _
-    (refusal-is counted ∙ too-short 8 (sheetFrom (z (s (told counted))) (A (s (told counted)))) (wanted counted) (omega arith))
+    (refusal-is counted ∙ too-short 8 (sheetFrom (z (s t)) (A (s t))) (wanted counted) (omega arith))
 
 -- ---- it is long enough
 put-sheet-requires : tie.Need-put-sheet-requires
