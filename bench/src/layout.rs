@@ -1,4 +1,5 @@
-//! The layout of a batch sheet, as both plain planners read it: refusals 1 to 6.
+//! The layout of a batch sheet, as both plain planners read it: refusals 1 to 6. The plain writer has the ranges of its
+//! figures from here.
 use batchplan::{Answer, Cause, Refusal};
 
 pub struct Sizes {
@@ -62,7 +63,7 @@ fn check_keys(size: &Sizes, keys: impl Iterator<Item = usize>) -> Result<(), Ref
     Ok(())
 }
 
-fn in_range(n: usize, entry: Entry) -> bool {
+pub fn in_range(n: usize, entry: Entry) -> bool {
     let range = match entry.row {
         0 => -10_000..=10_000,
         1 | 2 => 1..=1_000,

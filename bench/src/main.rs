@@ -1,5 +1,5 @@
-//! Times the proved planner beside plain Rust planners, and the program batchplan beside the solver glpsol. Nothing is
-//! asserted of a time.
+//! Times the proved planner beside plain Rust planners, the proved writer of sheets beside plain ones, and the program
+//! batchplan beside the solver glpsol. Nothing is asserted of a time.
 
 // docs/TASK.md writes its sums by index, and so do the planners here.
 #![allow(clippy::needless_range_loop)]
@@ -9,13 +9,14 @@ mod layout;
 mod plain;
 mod process;
 mod sheets;
+mod writing;
 
 use batchplan::{plan, Answer, RECORD_BYTES, SHEET_BYTES};
 use sheets::{Generator, Sheet};
 use std::hint::black_box;
 use std::time::Instant;
 
-const ROUNDS: usize = 41;
+pub const ROUNDS: usize = 41;
 
 type Planner = fn(&[u8], &mut [u8]) -> Answer;
 
@@ -65,13 +66,19 @@ fn check(sheet: &Sheet) {
 }
 
 /// Nanoseconds for one call, of so many.
-fn time(planner: Planner, (sheet, room): &Case, calls: usize) -> f64 {
-    let mut record = vec![0; *room];
+pub fn nanoseconds(calls: usize, mut call: impl FnMut()) -> f64 {
     let start = Instant::now();
     for _ in 0..calls {
-        black_box(planner(black_box(sheet), black_box(&mut record)));
+        call();
     }
     start.elapsed().as_nanos() as f64 / calls as f64
+}
+
+fn time(planner: Planner, (sheet, room): &Case, calls: usize) -> f64 {
+    let mut record = vec![0; *room];
+    nanoseconds(calls, || {
+        black_box(planner(black_box(sheet), black_box(&mut record)));
+    })
 }
 
 /// In each round every case is timed with every planner, one after the other.
@@ -85,15 +92,15 @@ fn rounds(cases: &[Case]) -> Vec<Round> {
     (0..ROUNDS).map(|_| round()).collect()
 }
 
-/// A line of a table: the median of each planner's time, and of the ratios of the proved planner's time to the others'.
-fn line(name: &str, rounds: &[Round], of: impl Fn(&Round) -> [f64; 3]) {
+/// A line of a table: the medians of the proved time and of the two others, and of the ratios of the proved to each.
+pub fn line(name: &str, rounds: &[Round], of: impl Fn(&Round) -> [f64; 3]) {
     let times = [0, 1, 2].map(|i| median(rounds.iter().map(|round| of(round)[i])) / 1000.0);
     let ratios = [1, 2].map(|i| median(rounds.iter().map(|round| of(round)[0] / of(round)[i])));
     let ([proved, plain, fixed], [to_plain, to_fixed]) = (times, ratios);
     println!("{name:30} {proved:11.3} {plain:11.3} {fixed:11.3}   {to_plain:6.2} {to_fixed:7.2}");
 }
 
-fn headline(what: &str) {
+pub fn headline(what: &str) {
     let [proved, plain, fixed] = ["proved, us", "Vec, us", "arrays, us"];
     println!("{what:30} {proved:>11} {plain:>11} {fixed:>11}   {:>6} {:>7}", "/Vec", "/arrays");
 }
@@ -117,8 +124,7 @@ fn main() {
     timed.iter().for_each(check);
     assert_eq!(timed[3].bytes().len(), SHEET_BYTES, "the largest sheet has every entry");
     println!(
-        "Answers and buffers are the same. Medians of {ROUNDS} rounds; a ratio is the proved planner's time to the \
-         other's.\n"
+        "Answers and buffers are the same. Medians of {ROUNDS} rounds; a ratio is the proved time to the other's.\n"
     );
     headline("planning a sheet");
     for sheet in &timed {
@@ -130,6 +136,8 @@ fn main() {
     for (sheet, later) in timed[1..].iter().zip([400, 100, 40]) {
         parts(sheet, later);
     }
+    println!();
+    writing::compare(&timed);
     println!();
     process::compare(&timed[2..]);
 }

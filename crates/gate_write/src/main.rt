@@ -1,9 +1,9 @@
 // Prints what `sheet_write::write_sheet` answers to each case of standard input, and what it leaves in the buffer that
 // it is lent, a line for each.
 //
-// A case comes in a frame (see `gate_frames`) with nothing after it. Its numbers are little-endian: the sizes n, m, p, D
-// and k, of 4 bytes each; how many figures the arrays of costs, least amounts, most amounts, a, b and starts have, and
-// the length of the buffer, of 2 bytes each; and the figures, array after array, of 4 bytes each, with a sign.
+// A case comes in a frame (see `gate_frames`) with nothing after it. Its numbers are little-endian: the sizes n, m, p,
+// D and k, of 4 bytes each; how many figures there are of costs, least amounts, most amounts, a, b and starts, and the
+// length of the buffer, of 2 bytes each; and the figures, array after array, of 4 bytes each, with a sign.
 //
 // A frame that is cut short ends the run. So does a case that is shorter than what it says it has, that has more than
 // 1,024 figures in all, or that asks for a buffer of more than 4,096 bytes.

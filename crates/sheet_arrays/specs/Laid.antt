@@ -1,17 +1,14 @@
 -- The bytes of entries, and of the sheet of the arrays.
-use mathlib.Core.Path.{_≡_, refl, sym, ap, ap₂, _∙_}
-use mathlib.Core.Bool.{not}
+use mathlib.Core.Path.{_≡_, refl, sym, ap, _∙_}
 use mathlib.Core.List.{List, [], _∷_, _++_, map, append-assoc}
 use Prim.Native.Nat.{ℕ, _+_, _*_, _≤_}
 use native.Mathlib.Nat.{mul-zero, mul-suc}
 use native.Mathlib.Omega.{arith}
-use lib.IntN.{ℤ}
 use lib.ListN.{length, length-append, length-map}
-use Rattle.rules.specs.Notation.{isZero}
 use Rattle.rules.specs.declared.Sizes.{Sizes}
 use Rattle.rules.specs.Bytes.{unsignedBytes, signedBytes, laid}
-use Rattle.rules.specs.Sheet.{Table, headerLength, sheetLength}
-use Rattle.rules.specs.Encoder.{laidOut, sizesWith, picked, allKeys, keysOf, written}
+use Rattle.rules.specs.Sheet.{Table, headerLength}
+use Rattle.rules.specs.Encoder.{laidOut, sizesWith, allKeys, keysOf, written}
 use Rattle.rules.specs.Arrays.{Arrays, gathered, sheetFrom}
 use Rattle.rules.specs.ReadBack.{figuresPresent}
 use Rattle.bytes_write.specs.Number.{length-unsigned, length-signed}

@@ -1,13 +1,13 @@
 -- The entries of figures that stand under consecutive keys, in the order of the keys: a figure of 0 has none.
 use mathlib.Core.Path.{_≡_, refl, sym, ap, ap₂, _∙_}
-use mathlib.Core.Bool.{Bool, true, false, not, cond, or-false}
+use mathlib.Core.Bool.{Bool, true, false, not, cond}
 use mathlib.Core.List.{List, [], _∷_, _++_, map, map-append, append-nil, append-assoc}
 use Prim.Native.Nat.{ℕ, zero, suc, _+_, _-_, _<_, _≤_}
 use native.Mathlib.Nat.{le-step, lt-suc-self, add-zero, add-suc, zero-add}
 use native.Mathlib.Omega.{arith}
 use lib.IntN.{ℤ, pos}
 use lib.ListN.{length, length-append}
-use Rattle.rules.specs.Notation.{isZero, anyBelow}
+use Rattle.rules.specs.Notation.{isZero}
 use Rattle.rules.specs.Sheet.{Table}
 use Rattle.rules.specs.Encoder.{picked}
 use Rattle.proof_laws.specs.Entries.{nonzero}

@@ -5,13 +5,13 @@ use mathlib.Core.List.{List, [], _∷_, _++_}
 use Prim.Native.Nat.{ℕ, zero, suc, _+_, _*_, _<_, _≤_}
 use native.Mathlib.Nat.{zero-add, add-zero, add-suc, mul-zero, mul-suc}
 use native.Mathlib.Omega.{arith}
-use lib.IntN.{ℤ, pos}
+use lib.IntN.{ℤ}
 use lib.ListN.{length}
 use Rattle.rules.specs.Notation.{isZero, anyBelow, at}
 use Rattle.rules.specs.declared.Kind.{Kind}
 use Rattle.rules.specs.declared.Kind.the-variants.{Cost, Least, Most, Coefficient, Rhs, Start}
 use Rattle.rules.specs.declared.Shape.{Shape}
-use Rattle.rules.specs.Sheet.{keyOf, rowOf, columnOf}
+use Rattle.rules.specs.Sheet.{keyOf}
 use Rattle.rules.specs.Ranges.{rangeOf, kindAt, inRange}
 use Rattle.rules.specs.Encoder.{allKeys}
 use Rattle.rules.specs.Refusals.{valueBad}

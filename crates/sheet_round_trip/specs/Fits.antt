@@ -1,9 +1,8 @@
 -- Sizes and figures that fit the bytes of a sheet: those that are not refused, and those of 16 and 32 bits.
 use mathlib.Core.Path.{_≡_, refl, sym, ap, _∙_}
 use mathlib.Core.Bool.{Bool, true, false, not, cond, _&&_, _||_}
-use mathlib.Core.List.{List}
 use mathlib.Core.Option.{none}
-use Prim.Native.Nat.{ℕ, suc, _<_, _≤_}
+use Prim.Native.Nat.{ℕ, suc, _≤_}
 use native.Mathlib.Omega.{arith}
 use borrow.Author.Tests.{not-false, eqb-true}
 use lib.Dec.{T}
@@ -16,18 +15,18 @@ use mir.Facts.{leb-yes, sfits-lit}
 use Rattle.proof_integer.specs.Range.{sfits-between}
 use Rattle.proof_laws.specs.Below.{any-none}
 use Rattle.proof_laws.specs.NotRefused.{otherwise-none, refuse-false, refuse-none}
-use Rattle.rules.specs.Notation.{isZero, anyBelow, at}
+use Rattle.rules.specs.Notation.{isZero, at}
 use Rattle.rules.specs.declared.Kind.{Kind}
 use Rattle.rules.specs.declared.Kind.the-variants.{Cost, Least, Most, Coefficient, Rhs, Start}
 use Rattle.rules.specs.declared.Shape.{Shape}
 use Rattle.rules.specs.declared.Sizes.{Sizes}
-use Rattle.rules.specs.Sheet.{Table, rowOf, columnOf}
+use Rattle.rules.specs.Sheet.{rowOf, columnOf}
 use Rattle.rules.specs.Ranges.{ranges, indexOf, rangeOf, kindAt, inRange, between, parametersInRange}
 use Rattle.rules.specs.Encoder.{allKeys}
 use Rattle.rules.specs.Refusals.{noFigureAt, valueBad}
 use Rattle.rules.specs.Arrays.{Arrays, figureOf, gathered, figureBad, tableRefusal}
 use Rattle.sheet_arrays.specs.Accepted.{arraysRefusal, shape-in}
-use Rattle.sheet_written.specs.ReadBack.{SizesFit, Fit}
+use Rattle.sheet_written.specs.ReadBack.{Fit}
 use Rattle.sheet_written.specs.Shaped.{Shaped}
 
 -- the table of arrays is 0 where its shape has no figure

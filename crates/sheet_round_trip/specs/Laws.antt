@@ -17,7 +17,7 @@ use Rattle.rules.specs.Arrays.{Arrays, gathered, tableRefusal, sheetFrom, write
 use Rattle.rules.specs.ReadBack.{SameFigures, ReadsAs, arraysOf, unplaced, figuresPresent}
 use Rattle.sheet_arrays.specs.Accepted.{arraysRefusal, refused-8, shape-in, wanted-is}
 use Rattle.sheet_written.specs.Accepted.{accepted-sizes}
-use Rattle.sheet_written.specs.Both.{sizes-fit, table-fits}
+use Rattle.sheet_written.specs.BytesFit.{sizes-fit, table-fits}
 use Rattle.sheet_written.specs.ReadBack.{SizesFit, read-alone}
 use Rattle.sheet_written.specs.Refused.{written-refused, written-accepted}
 use Rattle.sheet_written.specs.Same.{only-sheet}

@@ -1,7 +1,7 @@
 -- A problem's figures in plain arrays.
 use mathlib.Core.Path.{_≡_, refl, sym, _∙_}
 use mathlib.Core.Bool.{Bool, true, false}
-use Prim.Native.Nat.{ℕ, suc, _+_, _*_, _/_, _%_, _<_}
+use Prim.Native.Nat.{ℕ, _+_, _*_, _/_, _%_, _<_}
 use native.Mathlib.Nat.{mul-suc, mul-le-mul-left, mul-add-div, mul-add-mod-self-left, div-eq-of-lt, mod-eq-of-lt}
 use native.Mathlib.Omega.{arith}
 use borrow.Author.Tests.{eq-eqb, ltb-true, ltb-false}
@@ -13,7 +13,6 @@ use mir.Facts.{sfits-lit}
 use Rattle.proof_integer.specs.Vector.{length-tabulate, at-tabulate}
 use Rattle.proof_integer.specs.Tabulated.{at-past}
 use Rattle.rules.specs.Notation.{tabulate, at}
-use Rattle.rules.specs.declared.Shape.{Shape}
 use Rattle.rules.specs.Problem.{Problem}
 use Rattle.rules.specs.Arrays.{lengthsMatch}
 use Rattle.rules.specs.ReadBack.{SameFigures, arraysOf}

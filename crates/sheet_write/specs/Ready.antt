@@ -3,7 +3,6 @@ use mathlib.Core.Path.{_≡_}
 use mathlib.Core.List.{List}
 use Prim.Native.Nat.{ℕ, _+_, _*_, _≤_}
 use lib.ListN.{length}
-use Rattle.rules.specs.declared.Shape.{Shape}
 use Rattle.rules.specs.declared.Sizes.{Sizes}
 use Rattle.rules.specs.Arrays.{Arrays}
 use Rattle.rules.specs.ReadBack.{figuresPresent}

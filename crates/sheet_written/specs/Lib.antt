@@ -4,7 +4,7 @@
 --   Accepted     a sheet that is read is what is written of its own sizes and table
 --   Same         the figures of a sheet that is read decide its bytes
 --   Refused      what is written is refused by the reader as the table is
---   Both         the table of a sheet that is read is not refused
+--   BytesFit     the sizes and the table of any bytes fit a sheet
 -- What these stand on:
 --   Lists        lists that grow, rise, or are given place by place
 --   Picked       the numbers below n that pass a test
@@ -35,4 +35,4 @@ pub mod Unplaced
 pub mod AtKeys
 pub mod Dimensions
 pub mod Refused
-pub mod Both
+pub mod BytesFit

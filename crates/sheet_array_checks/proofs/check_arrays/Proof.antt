@@ -1,6 +1,6 @@
 -- Each test that passes hands on to the next.
 use mathlib.Core.Path.{_≡_, sym, ap, _∙_}
-use mathlib.Core.Bool.{true, false}
+use mathlib.Core.Bool.{true}
 use borrow.Author.Needs.{needs}
 use borrow.Author.Tests.{not-true, not-false}
 use Rattle.rules.specs.declared.Sizes.{Sizes}
@@ -8,7 +8,6 @@ use Rattle.rules.specs.Ranges.{dimensionsInRange, parametersInRange}
 use Rattle.rules.specs.Refusals.{numberOf, numbered, refusalOf}
 use Rattle.rules.specs.Arrays.{Arrays, lengthsMatch}
 use Rattle.sheet_arrays.specs.Lengths.{arrays, lengths-match}
-use Rattle.sheet_arrays.specs.Tested.{arraysOutside}
 use Rattle.sheet_array_checks.specs.Checks.{shape-refused, small, lengths-refused, parameters-refused}
 use Rattle.sheet_array_checks.specs.Checks.{figures-refused, amounts-decide}
 use Rattle.sheet_array_checks.proofs.check_arrays.Statement.{statement}

@@ -1,18 +1,15 @@
 -- The figures are tested, then the buffer; and then the sheet is put there.
 use mathlib.Core.Path.{_≡_, sym, ap, _∙_}
-use mathlib.Core.List.{List}
-use mathlib.Core.Option.{none, some}
+use mathlib.Core.Option.{none}
 use Prim.Native.Nat.{ℕ, _+_, _*_, _≤_}
 use native.Mathlib.Omega.{arith}
 use borrow.Author.Needs.{needs}
-use borrow.Author.Tests.{lt-ltb, le-ltb}
 use lib.ListN.{length}
 use Rattle.rules.specs.declared.Sizes.{Sizes}
 use Rattle.rules.specs.Refusals.{numbered, numberOf, refusalOf}
 use Rattle.rules.specs.Output.{shortBuffer}
 use Rattle.rules.specs.Arrays.{Arrays, sheetFrom, writeRefusal}
-use Rattle.rules.specs.ReadBack.{figuresPresent}
-use Rattle.proof_laws.specs.FirstPlace.{refuse-yes, refuse-no, given, handed-on}
+use Rattle.proof_laws.specs.FirstPlace.{given, handed-on}
 use Rattle.proof_laws.specs.Outputs.{writes-refused, writes-all, too-short, long-enough}
 use Rattle.bytes_write.specs.Written.{written}
 use Rattle.sheet_arrays.specs.Lengths.{arrays}

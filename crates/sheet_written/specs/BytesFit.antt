@@ -1,7 +1,5 @@
--- Sheets that are read and tables that are not refused are the same: here from the sheet to the table.
-use mathlib.Core.Path.{_≡_, sym, ap, _∙_}
+-- The sizes and the table of any bytes fit a sheet.
 use mathlib.Core.List.{List}
-use mathlib.Core.Option.{none}
 use Prim.Native.Nat.{ℕ}
 use lib.ListN.{getD}
 use mir.Syntax.{w8, w32}
@@ -10,13 +8,8 @@ use mir.Facts.{sfits-lit}
 use Rattle.bytes_read.specs.Width.{unsigned-below, signed-below}
 use Rattle.rules.specs.Bytes.{signedAt}
 use Rattle.rules.specs.Sheet.{sheetOf, tableOf}
-use Rattle.rules.specs.Refusals.{layoutRefusal}
-use Rattle.rules.specs.Arrays.{tableRefusal}
-use Rattle.rules.specs.ReadBack.{unplaced}
 use Rattle.sheet_written.specs.Under.{under-all}
 use Rattle.sheet_written.specs.ReadBack.{SizesFit}
-use Rattle.sheet_written.specs.Accepted.{accepted-single, accepted-shaped}
-use Rattle.sheet_written.specs.Refused.{written-refused}
 
 module _ (s : List ℕ) (bytes : (i : ℕ) → Fits w8 (getD s i 0)) where
   -- the sizes of any bytes fit a sheet
