@@ -1,4 +1,4 @@
--- What holds at every place below n.
+-- Tests that hold or fail, and what holds at every place below n.
 use mathlib.Core.Path.{_≡_, refl, ap₂}
 use mathlib.Core.Bool.{Bool, true, false, not, _||_, or-true}
 use mathlib.Core.Logic.{inl, inr}
@@ -8,6 +8,15 @@ use native.Mathlib.Numerals.{add-one}
 use lib.Dec.{T}
 use mir.Facts.{or-no}
 use Rattle.rules.specs.Notation.{anyBelow}
+
+-- a test that holds is true, and one that fails is false
+pub holds : (b : Bool) → T b → b ≡ true
+holds true t = refl
+holds false t = absurd t
+
+pub fails : (b : Bool) → T (not b) → b ≡ false
+fails true t = absurd t
+fails false t = refl
 
 -- below 0 there is no place
 pub below-zero : (Q : ℕ → Type 0) → (i : ℕ) → i < 0 → Q i

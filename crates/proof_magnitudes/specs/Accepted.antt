@@ -23,10 +23,10 @@ use Rattle.rules.specs.Problem.{Problem}
 use Rattle.rules.specs.Sheet.{Sheet, sheetOf, keyOf, rowOf, columnOf, valueUnder, tableOf, problemFrom, problem}
 use Rattle.rules.specs.Ranges.{_from_to_, ranges, indexOf, rangeOf, kindAt, inRange}
 use Rattle.rules.specs.Ranges.{between, dimensionsInRange, parametersInRange}
-use Rattle.rules.specs.Refusals.{valueBad, badValue, crossed, sizesRefusal, valueRefusal, boundRefusal, layoutRefusal}
+use Rattle.rules.specs.Refusals.{valueBad, badValue, crossed, layoutRefusal}
 use Rattle.proof_laws.specs.Entries.{key-parts, coefficient-kind, rhs-kind, start-kind}
 use Rattle.proof_laws.specs.Agreeing.{Agree}
-use Rattle.proof_laws.specs.NotRefused.{otherwise-none, refuse-none, first-none}
+use Rattle.proof_laws.specs.Passed.{Passed, passed}
 
 -- The ranges of a problem and of its step count k (T2.6 and T3.2), each with both its ends, whether or not a proof
 -- needs them.
@@ -50,30 +50,6 @@ pub record Accepted (P : Problem) (k : ℕ) : Type 0 where
   -- 0 ≤ s_i ≤ 2³⁰: a start that has no entry is 0 too
   pub start-sign : (i : ℕ) → i < P .limits → pos 0 ≤ℤ P .startingMultiplier i
   pub start-top : (i : ℕ) → i < P .limits → P .startingMultiplier i ≤ℤ pos 1073741824
-
--- ---- the tests that the ranges follow from, each over the whole sheet
-record Passed (S : Sheet) : Type 0 where
-  dimensions : T (dimensionsInRange (S .sizes .shape) (S .entries))
-  parameters : T (parametersInRange (S .sizes))
-  values : (i : ℕ) → i < S .entries → T (not (badValue S i))
-  bounds : (j : ℕ) → j < S .sizes .shape .materials → T (not (crossed (tableOf S) j))
-
--- the chain of refusals 1 to 7 (T7.3), link by link
-passed : (s : List ℕ) → layoutRefusal s ≡ none → Passed (sheetOf s)
-unfolding layoutRefusal sizesRefusal valueRefusal boundRefusal
-passed s h =
-    let (short, h) = otherwise-none _ _ h in
-    let (sizes, h) = otherwise-none _ _ h in
-    let (keys, h) = otherwise-none _ _ h in
-    let (values, bounds) = otherwise-none _ _ h in
-    let (dimensions, sizes) = otherwise-none _ _ sizes in
-    let (length, parameters) = otherwise-none _ _ sizes in
-    record {
-      dimensions = search (T-not-not, refuse-none);
-      parameters = search (T-not-not, refuse-none);
-      values = λ i l. refuse-none _ _ _ (first-none _ _ values i l);
-      bounds = λ j l. refuse-none _ _ _ (first-none _ _ bounds j l);
-    }
 
 -- a test of several parts: each part, and the order that it stands for
 ruleset parts = (and-l, and-r, leb-yes, leZ-yes)
@@ -115,7 +91,7 @@ module _ (S : Sheet) (key : ℕ) (Q : ℤ → Type 0) (absent : Q (pos 0)) where
       last true here before = here tt
       last false here before = before
 
-module _ (S : Sheet) (h : Passed S) where
+module _ (S : Sheet) {bytes : ℕ} (h : Passed S bytes) where
   abbrev shape : Shape
   shape = S .sizes .shape
 
@@ -150,30 +126,33 @@ module _ (S : Sheet) (h : Passed S) where
 
   ranged : Accepted (problem S) (S .sizes .steps)
   unfolding problemFrom dimensionsInRange parametersInRange between kindAt rangeOf ranges indexOf crossed
-  ranged = record {
-    materials-some = search parts;
-    materials-few = search parts;
-    limits-few = search parts;
-    numerator-some = search parts;
-    numerator-small = search parts;
-    scale-some = search parts;
-    scale-small = search parts;
-    steps-some = search parts;
-    steps-few = search parts;
-    cost-in = λ j l. figure-bnd 0 j (omega arith) 10000 refl;
-    least-sign = λ j l.
-        figure-cases 1 j (omega arith) (λ v. pos 0 ≤ℤ v) (leZ-yes tt) (λ v w. ≤ℤ-trans (leZ-yes tt) (w .low));
-    ordered = λ j l. ltZ-no (h .bounds j l);
-    most-in = λ j l. figure-cases 2 j (omega arith) (λ v. v ≤ℤ pos 1000) (leZ-yes tt) (λ v w. w .high);
-    coefficient-in = λ i _ j l. figure-bnd (3 + i) j (omega arith) 1000 (coefficient-range shape i j l);
-    rhs-in = λ i _. figure-bnd (3 + i) n (omega arith) 32000000 (rhs-range shape i);
-    start-sign = λ i _.
-        figure-cases (3 + i) (n + 1) (le-refl _) (λ v. pos 0 ≤ℤ v) (leZ-yes tt)
-        (λ v w. ≤ℤ-trans (leZ-yes tt) ((rw (start-range shape i) at w) .low));
-    start-top = λ i _.
-        figure-cases (3 + i) (n + 1) (le-refl _) (λ v. v ≤ℤ pos 1073741824) (leZ-yes tt)
-        (λ v w. (rw (start-range shape i) at w) .high);
-  }
+  ranged =
+      let sizes = h .dimensions in
+      let parameters = h .parameters in
+      record {
+        materials-some = search parts;
+        materials-few = search parts;
+        limits-few = search parts;
+        numerator-some = search parts;
+        numerator-small = search parts;
+        scale-some = search parts;
+        scale-small = search parts;
+        steps-some = search parts;
+        steps-few = search parts;
+        cost-in = λ j l. figure-bnd 0 j (omega arith) 10000 refl;
+        least-sign = λ j l.
+            figure-cases 1 j (omega arith) (λ v. pos 0 ≤ℤ v) (leZ-yes tt) (λ v w. ≤ℤ-trans (leZ-yes tt) (w .low));
+        ordered = λ j l. ltZ-no (h .bounds j l);
+        most-in = λ j l. figure-cases 2 j (omega arith) (λ v. v ≤ℤ pos 1000) (leZ-yes tt) (λ v w. w .high);
+        coefficient-in = λ i _ j l. figure-bnd (3 + i) j (omega arith) 1000 (coefficient-range shape i j l);
+        rhs-in = λ i _. figure-bnd (3 + i) n (omega arith) 32000000 (rhs-range shape i);
+        start-sign = λ i _.
+            figure-cases (3 + i) (n + 1) (le-refl _) (λ v. pos 0 ≤ℤ v) (leZ-yes tt)
+            (λ v w. ≤ℤ-trans (leZ-yes tt) ((rw (start-range shape i) at w) .low));
+        start-top = λ i _.
+            figure-cases (3 + i) (n + 1) (le-refl _) (λ v. v ≤ℤ pos 1073741824) (leZ-yes tt)
+            (λ v w. (rw (start-range shape i) at w) .high);
+      }
 
 -- Where none of refusals 1 to 7 is given, the problem of the sheet and its step count lie in their ranges.
 pub accepted : (s : List ℕ) → layoutRefusal s ≡ none → Accepted (problem (sheetOf s)) (sheetOf s .sizes .steps)

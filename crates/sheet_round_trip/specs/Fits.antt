@@ -13,7 +13,7 @@ use mir.Syntax.{w32}
 use mir.Val.{SFits}
 use mir.Facts.{leb-yes, sfits-lit}
 use Rattle.proof_integer.specs.Range.{sfits-between}
-use Rattle.proof_laws.specs.Below.{any-none}
+use Rattle.proof_laws.specs.Below.{fails, any-none}
 use Rattle.proof_laws.specs.NotRefused.{otherwise-none, refuse-false, refuse-none}
 use Rattle.rules.specs.Notation.{isZero, at}
 use Rattle.rules.specs.declared.Kind.{Kind}
@@ -59,11 +59,6 @@ zero-is : (v : ℤ) → isZero v ≡ true → v ≡ pos 0
 unfolding isZero
 zero-is (pos k) h = ap pos (eqb-true k 0 h)
 zero-is (negsuc k) h = let z : suc k ≡ 0 = eqb-true (suc k) 0 h in absurd (omega arith)
-
--- a test that does not hold
-fails : (b : Bool) → T (not b) → b ≡ false
-fails true t = absurd t
-fails false t = refl
 
 never : false ≡ true → ⊥
 never h = let z : _≡_ {A = ℕ} 0 1 = cc in omega arith

@@ -5,46 +5,23 @@ use mathlib.Core.List.{List}
 use mathlib.Core.Option.{none}
 use Prim.Native.Nat.{ℕ, suc, _<_, _≤_}
 use native.Mathlib.Omega.{arith}
-use borrow.Author.Tests.{not-false, eqb-true, leb-false}
+use borrow.Author.Tests.{leb-false}
 use lib.ListN.{length, getD}
 use mir.Syntax.{w8}
 use mir.Val.{Fits}
 use Rattle.proof_laws.specs.Entries.{noFigureFor, figure-at, good-key}
-use Rattle.proof_laws.specs.NotRefused.{otherwise-none, refuse-false, first-none}
+use Rattle.proof_laws.specs.Below.{holds, fails}
+use Rattle.proof_laws.specs.Passed.{Passed, passed}
 use Rattle.proof_laws.specs.Sizes.{SizesInRange, dimensions}
 use Rattle.rules.specs.Notation.{isZero}
-use Rattle.rules.specs.Sheet.{Sheet, sheetLength, sheetOf, rowOf, columnOf, tableOf}
+use Rattle.rules.specs.Sheet.{Sheet, sheetOf, rowOf, columnOf, tableOf}
 use Rattle.rules.specs.Encoder.{allKeys, written}
 use Rattle.rules.specs.Refusals.{noFigureAt, valueBad, notAbove, badKey, badValue}
-use Rattle.rules.specs.Refusals.{sizesRefusal, keyRefusal, valueRefusal, layoutRefusal}
+use Rattle.rules.specs.Refusals.{layoutRefusal}
 use Rattle.sheet_written.specs.Under.{RisingKeys, under-none}
 use Rattle.sheet_written.specs.Support.{present}
 use Rattle.sheet_written.specs.Single.{Sheetlike, single}
 use Rattle.sheet_written.specs.Shaped.{Shaped}
-
--- the tests that it passed
-record Passed (s : List ℕ) : Type 0 where
-  in-range : SizesInRange (sheetOf s .sizes .shape) (sheetOf s .entries)
-  long : length s ≡ sheetLength (sheetOf s .entries)
-  keys : (i : ℕ) → i < sheetOf s .entries → badKey (sheetOf s) i ≡ false
-  values : (i : ℕ) → i < sheetOf s .entries → badValue (sheetOf s) i ≡ false
-
--- the chain of refusals, link by link
-passed : (s : List ℕ) → layoutRefusal s ≡ none → Passed s
-unfolding layoutRefusal sizesRefusal keyRefusal valueRefusal
-passed s h =
-    let (short, h) = otherwise-none _ _ h in
-    let (sizes, h) = otherwise-none _ _ h in
-    let (keys, h) = otherwise-none _ _ h in
-    let (values, bounds) = otherwise-none _ _ h in
-    let (ranges, sizes) = otherwise-none _ _ sizes in
-    let (long, parameters) = otherwise-none _ _ sizes in
-    record {
-      in-range = dimensions _ _ (not-false _ (refuse-false 2 0 _ ranges));
-      long = eqb-true _ _ (not-false _ (refuse-false 3 0 _ long));
-      keys = λ i l. refuse-false 5 i _ (first-none _ _ keys i l);
-      values = λ i l. refuse-false 6 i _ (first-none _ _ values i l);
-    }
 
 -- ---- an entry that passed
 -- the parts of a test that fails
@@ -70,14 +47,14 @@ module _ (S : Sheet) where
       omega arith
 
 -- so its bytes are as `single` asks
-sheetlike : (s : List ℕ) → Passed s → Sheetlike s
+sheetlike : (s : List ℕ) → Passed (sheetOf s) (length s) → Sheetlike s
 sheetlike s f =
     let S = sheetOf s in
     record {
       long = f .long;
       rising = rising-keys S (f .keys);
-      low = λ i l. key-low S i (f .in-range .few) (f .keys i l);
-      not-zero = λ i l. value-present S i (f .values i l);
+      low = λ i l. key-low S i (dimensions _ _ (holds _ (f .dimensions)) .few) (f .keys i l);
+      not-zero = λ i l. value-present S i (fails _ (f .values i l));
     }
 
 -- ---- the laws
@@ -88,7 +65,7 @@ accepted-single s bytes h = single (sheetlike s (passed s h)) bytes
 
 -- its sizes are in their ranges
 pub accepted-sizes : (s : List ℕ) → layoutRefusal s ≡ none → SizesInRange (sheetOf s .sizes .shape) (sheetOf s .entries)
-accepted-sizes s h = passed s h .in-range
+accepted-sizes s h = dimensions _ _ (holds _ (passed s h .dimensions))
 
 -- and its table is 0 where its shape has no figure
 pub accepted-shaped : (s : List ℕ) → layoutRefusal s ≡ none → Shaped (sheetOf s .sizes .shape) (tableOf (sheetOf s))
