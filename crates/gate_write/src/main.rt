@@ -8,7 +8,7 @@
 // A frame that is cut short ends the run. So does a case that is shorter than what it says it has, that has more than
 // 1,024 figures in all, or that asks for a buffer of more than 4,096 bytes.
 //
-// Before a case, the byte at place i of the buffer is the last byte of 7 i + 3 (see `gate_frames`).
+// Before a case, the byte at place i of the buffer is the last byte of 7 i + 3.
 //
 // The line of a sheet is `wrote` and its length. That of a refusal is `refused`, the number and the place. Then come a
 // space and every byte of the buffer, in two hexadecimal digits: the sheet, and the bytes that must stay as lent.
@@ -17,14 +17,15 @@
 use bytes_read::signed_32;
 use bytes_read::size_at;
 use gate_frames::Frame;
-use gate_frames::fill;
 use gate_frames::frame_at;
-use gate_frames::show_refused;
-use gate_frames::write_with_buffer;
+use gate_frames::write_line;
 use libc::STDIN_FILENO;
 use out_numbers::put_number;
+use out_refusals::number_of;
+use out_text::put_byte;
 use out_text::put_bytes;
 use rules::Output;
+use rules::Refusal;
 use rules::Shape;
 use rules::Sizes;
 ghost use Prim.Native.Nat.{_+_, _*_, _≤_};
@@ -42,12 +43,21 @@ const LENT: usize = 4096;
 // The room for a line. A line takes less than 8,300 bytes.
 const ROOM: usize = 8448;
 
-// Each function from here to `show_output` puts something at the start of the line, and answers the place after it.
+// Each function from here to `show_hex` puts something at the end of the line, and answers the place after it.
 
 // The length of a sheet.
 fn show_length(line: &mut [u8], length: usize) -> usize {
     let named = put_bytes(line, 0, b"wrote ");
     put_number(line, named, length as u64)
+}
+
+// A refusal.
+fn show_refused(line: &mut [u8], refusal: Refusal) -> usize {
+    let cause = refusal.cause;
+    let named = put_bytes(line, 0, b"refused ");
+    let numbered = put_number(line, named, number_of(cause) as u64);
+    let parted = put_byte(line, numbered, b' ');
+    put_number(line, parted, refusal.place as u64)
 }
 
 // What writing gives.
@@ -58,11 +68,41 @@ fn show_output(line: &mut [u8], output: Output) -> usize {
     }
 }
 
+// A byte in two hexadecimal digits.
+fn show_hex_byte(line: &mut [u8], at: usize, byte: u8) -> usize {
+    let mut digits = [0u8; 16];
+    let count = io::hex(byte as u64, 2, &mut digits);
+    put_bytes(line, at, &digits[..count])
+}
+
+// Bytes in hexadecimal, one after the other.
+fn show_hex(line: &mut [u8], at: usize, bytes: &[u8]) -> usize {
+    let mut end = at;
+    let mut i: usize = 0;
+    while i < bytes.len() {
+        end = show_hex_byte(line, end, bytes[i]);
+        i += 1;
+    }
+    end
+}
+
+// What the buffer holds before a case.
+fn fill(buffer: &mut [u8]) {
+    let mut i = 0;
+    while i < buffer.len() {
+        buffer[i] = ((7 * (i % 256) + 3) % 256) as u8;
+        i += 1;
+    }
+}
+
 // Prints the line of a case.
 fn print_output(output: Output, buffer: &[u8]) {
     let mut line = [0u8; ROOM];
     let answered = show_output(&mut line, output);
-    write_with_buffer(&mut line, answered, buffer);
+    let parted = put_byte(&mut line, answered, b' ');
+    let filled = show_hex(&mut line, parted, buffer);
+    let end = put_byte(&mut line, filled, b'\n');
+    write_line(&line, end);
 }
 
 // The unsigned number of 4 bytes at a place.

@@ -3,8 +3,8 @@ use Prim.Native.Nat.{_-_, _≤_}
 use mathlib.Core.Path.{_≡_}
 use borrow.Author.Needs.{needs}
 use lib.ListN.{length}
-use Rattle.gate_frames.proofs.fill.Statement.{statement}
-use Rattle.gate_frames.proofs.fill.Tie as tie
+use Rattle.gate_plan.proofs.fill.Statement.{statement}
+use Rattle.gate_plan.proofs.fill.Tie as tie
 
 abbrev Inv-loop : tie.InvT-loop
 Inv-loop buffer₀ i₀ buffer i = (i ≤ length buffer₀) × (length buffer ≡ length buffer₀)

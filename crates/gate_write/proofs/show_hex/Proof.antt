@@ -3,8 +3,8 @@ use mathlib.Core.Path.{_≡_}
 use Prim.Native.Nat.{_-_, _≤_}
 use borrow.Author.Needs.{needs}
 use lib.ListN.{length}
-use Rattle.gate_frames.proofs.show_hex.Statement.{statement}
-use Rattle.gate_frames.proofs.show_hex.Tie as tie
+use Rattle.gate_write.proofs.show_hex.Statement.{statement}
+use Rattle.gate_write.proofs.show_hex.Tie as tie
 
 abbrev Inv-loop : tie.InvT-loop
 Inv-loop line₀ at bytes end₀ i₀ line end i = (i ≤ length bytes) × (length line ≡ length line₀)
