@@ -60,7 +60,7 @@ static void print_refusal(size_t number, size_t place)
 {
     switch (number) {
     case BATCHPLAN_DIMENSIONS:
-        puts("refused: there are too many materials or limits, or a row has another length");
+        puts("refused: there are no materials, too many materials or limits, or a row of a wrong length");
         break;
     case BATCHPLAN_PARAMETERS:
         puts("refused: the step length or the number of steps is outside its range");
@@ -85,6 +85,12 @@ static void print_refusal(size_t number, size_t place)
     }
 }
 
+/* x divided by `by` hundreds, cut down to hundredths: what is claimed of a cost is never rounded up. */
+static double hundredths(int64_t x, int64_t by)
+{
+    return (double)(x / by - (x % by < 0)) / 100;
+}
+
 /* Tells what to weigh, what each limit comes to, and what is proved of the cost. */
 static void print_plan(int64_t low, int64_t gap, const uint8_t *record)
 {
@@ -98,8 +104,8 @@ static void print_plan(int64_t low, int64_t gap, const uint8_t *record)
         printf("%s: %.3f kg %s", limits[i], over > 0 ? over : -over, over > 0 ? "short" : "to spare");
         printf(", next week's start %" PRIu64 "\n", number_at(multipliers + 4 * i, 4));
     }
-    printf("no recipe that keeps bounds and limits costs less than %.2f crowns\n", (double)low / D / 1000);
-    printf("this one costs at most %.2f crowns more than any of them\n", (double)gap / STEPS / D / 1000);
+    printf("no recipe that keeps bounds and limits costs less than %.2f crowns\n", hundredths(low, 10 * D));
+    printf("this one costs at most %.2f crowns more than any of them\n", -hundredths(-gap, 10 * (int64_t)STEPS * D));
 }
 
 /* Writes bytes to a file. Gives 0 where that fails. */

@@ -19,7 +19,7 @@
  *   3 + i       column n:     b of limit i,                   -32,000,000 to 32,000,000
  *   3 + i       column n + 1: the start of limit i,           1 to 1,073,741,824
  * and limit i says that the sum of a times amount is at most b. Its multiplier, kept times D, begins at the start.
- * batchplan_write_sheet makes these bytes of the figures; there is one sheet for them, and no other.
+ * batchplan_write_sheet makes these bytes of sizes and figures; there is one sheet for them, and no other.
  *
  * To go on next week where a plan ends: give each limit of the new sheet the closing multiplier of the old record as
  * its start. Among the arrays of batchplan_write_sheet these are the m figures of `start`. In the bytes limit i has its
@@ -52,7 +52,9 @@
  * sheet takes some two milliseconds.
  *
  * To link: the archive target/staticlib/libbatchplan_lib.a, made by `rt staticlib batchplan_lib`, for x86-64 Linux, and
- * the C library.
+ * the C library. Python and others that load a library want a shared object:
+ *     gcc -shared -o libbatchplan.so -Wl,--whole-archive target/staticlib/libbatchplan_lib.a -Wl,--no-whole-archive
+ * Sizes and lengths have 8 bytes there: in ctypes set `argtypes`, or a right call may be refused with 2.
  */
 #ifndef BATCHPLAN_H
 #define BATCHPLAN_H
@@ -67,7 +69,8 @@ extern "C" {
 /*
  * The version of the rules that this header is for (T10.5). It goes up by one when an answer, a length or the layout of
  * a record changes. Where batchplan_version() gives another number, the library was not made for this header. A
- * function that is added leaves it as it is: a library that lacks the function does not link.
+ * function that is added leaves it as it is: a library that lacks the function does not link or, where it is loaded,
+ * lacks the symbol.
  *
  * Version 2 has the starts, and longer sheets with them: 3852 bytes in place of 3756. A sheet that version 1 reads has
  * no starts, and its answer and its record are what they were.
@@ -94,7 +97,8 @@ enum {
     BATCHPLAN_LENGTH = 3,      /* the sheet's length is not what its count of entries asks for */
     BATCHPLAN_PARAMETERS = 4,  /* p, D or k is outside its range */
     BATCHPLAN_KEY = 5,         /* an entry's key names no figure, or is not above the one before; place: the entry */
-    BATCHPLAN_VALUE = 6,       /* an entry's value is 0 or outside its range; place: the entry, and 0 of an array */
+    BATCHPLAN_VALUE = 6,       /* an entry's value is 0 or outside its range; place: the entry. Of arrays: a figure is
+                                * neither 0 nor in its range; place 0 */
     BATCHPLAN_BOUNDS = 7,      /* a material's least amount is above its most amount; place: the material */
     BATCHPLAN_BUFFER = 8,      /* the buffer is too short; place: the length of the record or the sheet */
     BATCHPLAN_INFEASIBLE = 9,  /* no recipe keeps all bounds and limits ("no blend"); place: the step */
@@ -136,7 +140,9 @@ size_t batchplan_listing(const uint8_t *sheet, size_t sheet_bytes, uint8_t *text
 
 /*
  * Writes the sheet of sizes and figures (T10.6, T13). The sizes are n, m, p, D and k. The figures stand in six arrays;
- * one that is 0 is absent from the sheet. The length of an array counts its figures, and stands beside it:
+ * one that is 0 is absent from the sheet. So a most amount that is left out is 0, and none of the material is used; a b
+ * that is left out is 0, and the limit still holds. A figure that does not fit 32 bits is the caller's to refuse. An
+ * array, its length beside it, how many figures that must be, and which:
  *   cost   costs    n      the cost of each material
  *   least  leasts   n      its least amount
  *   most   mosts    n      its most amount
@@ -147,7 +153,8 @@ size_t batchplan_listing(const uint8_t *sheet, size_t sheet_bytes, uint8_t *text
  *
  * Where it is written: the answer is 0, *length_or_place is the length of the sheet, 12 + 6e for e figures that are not
  * 0, and the sheet stands at the start of the buffer. The bytes of the buffer after the sheet are as they were.
- * batchplan_plan reads the sheet, without any of refusals 1 to 7, as these sizes and figures.
+ * batchplan_plan, which wants this length and not the buffer's, reads the sheet without any of refusals 1 to 7, as
+ * these sizes and figures.
  *
  * For a refusal: the answer is its number, *length_or_place is its place, and every byte of the buffer is as it was.
  * They are looked for in this order, and the first that is found is the answer:

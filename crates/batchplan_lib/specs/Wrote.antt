@@ -8,10 +8,6 @@ use Rattle.rules.specs.Output.{Writing, wrote, refused, writingOf, lentAfter}
 use Rattle.rules.specs.Arrays.{Arrays, sheetFrom, writeRefusal}
 use Rattle.batchplan_lib.specs.declared.Pair.{Pair}
 
--- the five sizes
-abbrev pub sized : (n m p D k : ℕ) → Sizes
-sized n m p D k = record { shape = record { materials = n; limits = m }; numerator = p; scale = D; steps = k }
-
 -- TASK.md, T10.6: a sheet has the number 0 and its length; a refusal has its number and its place
 unfoldable pub pairOf : Writing → Pair
 pairOf (wrote n) = record { number = 0; beside = n }

@@ -3,14 +3,15 @@
 ghost use Prim.Native.Nat.{_≤_};
 ghost use mathlib.Core.Path.{_≡_};
 ghost use lib.ListN.{length};
+ghost use Rattle.rules.specs.Sheet.{sized};
 ghost use Rattle.rules.specs.Record.{longestRecord};
 ghost use Rattle.rules.specs.Answers.{outcome};
 ghost use Rattle.rules.specs.Listing.{listing, Listed};
 ghost use Rattle.rules.specs.Output.{writing};
 ghost use Rattle.rules.specs.Version.{version};
-ghost use Rattle.sheet_arrays.specs.Lengths.{arrays};
+ghost use Rattle.rules.specs.Arrays.{arrays};
 ghost use Rattle.batchplan_lib.specs.Called.{numbersOf, Called};
-ghost use Rattle.batchplan_lib.specs.Wrote.{sized, pairOf, Wrote};
+ghost use Rattle.batchplan_lib.specs.Wrote.{pairOf, Wrote};
 use out_layout::LONGEST;
 use out_listing::write_listing;
 use out_refusals::number_of;

@@ -8,7 +8,7 @@ use borrow.Author.Tests.{lt-ltb, le-ltb}
 use lib.ListN.{length, drop}
 use Rattle.rules.specs.declared.Output.{Output}
 use Rattle.rules.specs.declared.Refusal.{Refusal}
-use Rattle.rules.specs.Refusals.{Numbered, numbered, _otherwise_}
+use Rattle.rules.specs.Refusals.{Numbered, numbered}
 use Rattle.rules.specs.Output.{wrote, writing, writingOf, lentAfter, shortBuffer, Writes}
 use Rattle.proof_laws.specs.FirstPlace.{refuse-yes, refuse-no}
 
@@ -24,12 +24,6 @@ module _ {bytes : List ℕ} {met : Option Numbered} {lent : List ℕ} where
     answered = ap wrote e ∙ sym (ap (writingOf bytes) m);
     buffer = b ∙ ap (λ (n : ℕ). bytes ++ drop n lent) (sym e);
   }
-
--- the chain of refusals, with its first two taken together
-pub otherwise-assoc : (a b c : Option Numbered) → a otherwise b otherwise c ≡ (a otherwise b) otherwise c
-unfolding _otherwise_
-otherwise-assoc none b c = refl
-otherwise-assoc (some r) b c = refl
 
 -- ---- a buffer that is too short for w bytes, and one that is not
 module _ (number : ℕ) (bytes : List ℕ) {room w : ℕ} (wanted : length bytes ≡ w) where

@@ -32,6 +32,11 @@ pub record Arrays : Type 0 where
   -- s_i
   pub starts : List ℤ
 
+-- six arrays, in this order
+abbrev pub arrays : (costs leastAmounts mostAmounts coefficients rightHandSides starts : List ℤ) → Arrays
+arrays c l u a b s =
+    record { costs = c; leastAmounts = l; mostAmounts = u; coefficients = a; rightHandSides = b; starts = s }
+
 module _ (shape : Shape) (A : Arrays) where
   -- T13.1, has each array as many figures as n and m say?
   unfoldable pub lengthsMatch : Bool
@@ -78,9 +83,10 @@ module _ (z : Sizes) (A : Arrays) where
   unfoldable pub sheetFrom : List ℕ
   sheetFrom = written z (gathered (z .shape) A)
 
-  -- T13.4, what writing it to a buffer of `room` bytes is refused with, if anything
+  -- T13.4, refusals 2, 4, 6 and 7 of the arrays
+  unfoldable pub arraysRefusal : Option Numbered
+  arraysRefusal = refuse 2 0 (not (lengthsMatch (z .shape) A)) otherwise tableRefusal z (gathered (z .shape) A)
+
+  -- T13.4, what writing the sheet to a buffer of `room` bytes is refused with, if anything
   unfoldable pub writeRefusal : ℕ → Option Numbered
-  writeRefusal room =
-      refuse 2 0 (not (lengthsMatch (z .shape) A))
-      otherwise tableRefusal z (gathered (z .shape) A)
-      otherwise shortBuffer 8 sheetFrom room
+  writeRefusal room = arraysRefusal otherwise shortBuffer 8 sheetFrom room

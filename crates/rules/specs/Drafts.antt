@@ -11,17 +11,17 @@ use Rattle.rules.specs.declared.Output.{Output}
 use Rattle.rules.specs.declared.Sizes.{Sizes}
 use Rattle.rules.specs.Notation.{neg, isZero, anyBelow}
 use Rattle.rules.specs.Bytes.{unsignedBytes, signedBytes, laid}
-use Rattle.rules.specs.Sheet.{sheetOf, problem}
+use Rattle.rules.specs.Sheet.{sized, sheetOf, problem}
 use Rattle.rules.specs.Ranges.{ranges, indexOf, rangeOf, kindAt, inRange, between, dimensionsInRange}
 use Rattle.rules.specs.Ranges.{parametersInRange}
 use Rattle.rules.specs.Encoder.{laidOut, picked, keysOf, written}
 use Rattle.rules.specs.Refusals.{numberOf, numbered, refuse, _otherwise_, firstBelow, noFigureAt, valueBad}
 use Rattle.rules.specs.Refusals.{crossed, boundRefusal}
 use Rattle.rules.specs.Output.{writing, writingOf, lentAfter, shortBuffer}
-use Rattle.rules.specs.Arrays.{Arrays, lengthsMatch, figureOf, gathered, figureBad, tableRefusal, sheetFrom}
-use Rattle.rules.specs.Arrays.{writeRefusal}
+use Rattle.rules.specs.Arrays.{Arrays, arrays, lengthsMatch, figureOf, gathered, figureBad, tableRefusal}
+use Rattle.rules.specs.Arrays.{sheetFrom, arraysRefusal, writeRefusal}
 use Rattle.rules.specs.ReadBack.{arraysOf, unplaced, presentIn, figuresPresent}
-use Rattle.rules.specs.Rows.{sized, hex, nibble, unspaced, pairs, lent, Holds, _and_}
+use Rattle.rules.specs.Rows.{hex, nibble, unspaced, pairs, lent, Holds, _and_}
 use Rattle.rules.specs.Marked.{C1}
 use Rattle.rules.specs.Listing.{text}
 
@@ -33,11 +33,6 @@ pub record Draft : Type 0 where
   pub room : ℕ
   pub output : Output
   pub bytes : List ℕ
-
--- arrays in one line: costs, least and most amounts, coefficients, right-hand sides, starts
-abbrev pub arrays : (c l u a b s : List ℤ) → Arrays
-arrays c l u a b s =
-    record { costs = c; leastAmounts = l; mostAmounts = u; coefficients = a; rightHandSides = b; starts = s }
 
 -- sizes, arrays, a buffer and what is written
 abbrev pub writes : Sizes → Arrays → ℕ → List ℕ → Draft
@@ -60,7 +55,7 @@ unfolding
     isZero anyBelow unsignedBytes signedBytes laid ranges indexOf rangeOf kindAt inRange between dimensionsInRange
     parametersInRange laidOut picked keysOf written numberOf numbered refuse _otherwise_ firstBelow noFigureAt valueBad
     crossed boundRefusal writing writingOf lentAfter shortBuffer lengthsMatch figureOf gathered figureBad tableRefusal
-    sheetFrom writeRefusal nibble unspaced pairs text
+    sheetFrom arraysRefusal writeRefusal nibble unspaced pairs text
 Written r =
     let bytes = sheetFrom (r .sizes) (r .arrays) in
     (writingOf bytes (writeRefusal (r .sizes) (r .arrays) (r .room)) ≡ writing (r .output)) ×
@@ -115,6 +110,10 @@ lengths =
     refuses (sized 33 0 1 1 1) (arrays (replicate 33 (pos 0)) (replicate 33 (pos 0)) (replicate 33 (pos 0)) [] [] []) 12
     Dimensions 0 ∷
     refuses (sized 0 0 1 1 1) (arrays [] [] [] [] [] []) 12 Dimensions 0 ∷
+    refuses (sized 1 17 1 1 1)
+    (arrays (pos 0 ∷ []) (pos 0 ∷ []) (pos 0 ∷ []) (replicate 17 (pos 0)) (replicate 17 (pos 0)) (replicate 17 (pos 0)))
+    12 Dimensions 0 ∷
+    refuses (sized 1 0 1 1 1) (arrays (pos 0 ∷ []) (pos 0 ∷ []) (pos 0 ∷ []) [] [] (pos 0 ∷ [])) 12 Dimensions 0 ∷
     refuses (sized 1 1 1 1 1) (arrays [] (pos 0 ∷ []) (pos 0 ∷ []) (pos 0 ∷ []) (pos 0 ∷ []) (pos 0 ∷ [])) 12
     Dimensions 0 ∷
     refuses (sized 1 1 1 1 1) (arrays (pos 0 ∷ []) [] (pos 0 ∷ []) (pos 0 ∷ []) (pos 0 ∷ []) (pos 0 ∷ [])) 12
@@ -155,7 +154,8 @@ pub lengths-refused : AllWritten lengths
 unfolding AllWritten Written
 lengths-refused =
     (refl and refl) and (refl and refl) and (refl and refl) and (refl and refl)
-    and (refl and refl) and (refl and refl) and (refl and refl) and (refl and refl) and tt
+    and (refl and refl) and (refl and refl) and (refl and refl) and (refl and refl)
+    and (refl and refl) and (refl and refl) and tt
 
 pub figures-refused : AllWritten figures
 unfolding AllWritten Written

@@ -11,7 +11,7 @@
 --   Record     the bytes of a plan, and the plan that such bytes hold
 --   Refusals   the numbers of the refusals, and refusals 1 to 7
 --   Answers    the answer to a sheet, and the lent buffer afterwards
---   Output     what a function that writes bytes answers, and the lent buffer afterwards
+--   Output     what a function that writes a sheet or a text answers, and the lent buffer afterwards
 --   Arrays     a sheet written from plain arrays
 --   Listing    the text of an answer, and what writing it to lent bytes gives
 --   Margins    the statement of T9.3 to T9.7

@@ -7,12 +7,12 @@ use Rattle.rules.specs.Notation.{neg, at}
 use Rattle.rules.specs.declared.Answer.the-variants.{Plan, Refused}
 use Rattle.rules.specs.declared.Cause.the-variants.{Bounds, Infeasible, Diverged}
 use Rattle.rules.specs.Problem.{Problem}
-use Rattle.rules.specs.Sheet.{sheetOf, problem}
+use Rattle.rules.specs.Sheet.{sized, sheetOf, problem}
 use Rattle.rules.specs.Encoder.{written}
 use Rattle.rules.specs.Step.{reducedCost, greatestCost, cheapestCost}
 use Rattle.rules.specs.Run.{stateAfter, lookAfter}
 use Rattle.rules.specs.Listing.{text}
-use Rattle.rules.specs.Rows.{Entry, _∶_, sized, entered, encode, hex, Row, Holds, AllHold, _and_}
+use Rattle.rules.specs.Rows.{Entry, _∶_, entered, encode, hex, Row, Holds, AllHold, _and_}
 
 abbrev pub entries-C1 : List Entry
 entries-C1 = 0 ∶ pos 3 ∷ 1 ∶ pos 1 ∷ 128 ∶ pos 10 ∷ 129 ∶ pos 10 ∷ 192 ∶ neg 2 ∷ 193 ∶ neg 1 ∷ 194 ∶ neg 12 ∷ []

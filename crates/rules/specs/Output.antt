@@ -1,4 +1,4 @@
--- TASK.md, T13.5 and T13.6: what a function that writes bytes answers, and the lent buffer afterwards.
+-- TASK.md, T13.5 and T13.6: what a function that writes a sheet or a text answers, and the lent buffer afterwards.
 use Prim.Native.Nat.{ℕ}
 use mathlib.Core.Path.{_≡_}
 use mathlib.Core.List.{List, _++_}

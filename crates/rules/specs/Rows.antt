@@ -8,11 +8,10 @@ use lib.ListN.{length, replicate, drop}
 use lib.IntN.{ℤ, pos}
 use lib.Dec.{ltb, eqb}
 use Rattle.rules.specs.Notation.{isZero, maxℤ, sumTo, anyBelow, tabulate}
-use Rattle.rules.specs.declared.Sizes.{Sizes}
 use Rattle.rules.specs.declared.Answer.{Answer}
 use Rattle.rules.specs.Problem.{costOf, loadOf}
 use Rattle.rules.specs.Bytes.{unsignedAt, signedOf, signedAt, unsignedBytes, signedBytes, laid}
-use Rattle.rules.specs.Sheet.{headerLength, Table, valueUnder, problemFrom}
+use Rattle.rules.specs.Sheet.{headerLength, sized, Table, valueUnder, problemFrom}
 use Rattle.rules.specs.Encoder.{laidOut, sizesWith, picked, keysOf, written}
 use Rattle.rules.specs.Ranges.{ranges, indexOf, rangeOf, kindAt, inRange, between, dimensionsInRange}
 use Rattle.rules.specs.Ranges.{parametersInRange}
@@ -38,10 +37,6 @@ pub record Entry : Type 0 where
 
 abbrev pub _∶_ : ℕ → ℤ → Entry
 key ∶ value = record { key = key; value = value }
-
--- the sizes n, m, p, D and k
-abbrev pub sized : (n m p D k : ℕ) → Sizes
-sized n m p D k = record { shape = record { materials = n; limits = m }; numerator = p; scale = D; steps = k }
 
 -- the table that has these entries, and 0 under every other key
 unfoldable pub entered : List Entry → Table

@@ -33,6 +33,10 @@ sheetLength e = valueAt e e
 
 -- ---- a sheet that has been read
 
+-- the sizes n, m, p, D and k
+abbrev pub sized : (n m p D k : ℕ) → Sizes
+sized n m p D k = record { shape = record { materials = n; limits = m }; numerator = p; scale = D; steps = k }
+
 -- T2.3, T2.4: the sizes n, m, p, D and k; e; and the entries, of which entry i has key i and value i.
 pub record Sheet : Type 0 where
   pub sizes : Sizes

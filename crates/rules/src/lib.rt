@@ -33,7 +33,7 @@ pub enum Answer {
     Refused(Refusal),
 }
 
-// The answer of a function that writes bytes to a lent buffer: how many it wrote, or a refusal.
+// The answer of a function that writes a sheet or a text to a lent buffer: how many bytes it wrote, or a refusal.
 pub enum Output {
     Wrote(usize),
     Refused(Refusal),

@@ -7,7 +7,8 @@ use Rattle.rules.specs.Notation.{neg}
 use Rattle.rules.specs.declared.Answer.the-variants.{Plan}
 use Rattle.rules.specs.Encoder.{written}
 use Rattle.rules.specs.Listing.{text}
-use Rattle.rules.specs.Rows.{Entry, _∶_, sized, entered, encode, hex, Row, Holds}
+use Rattle.rules.specs.Sheet.{sized}
+use Rattle.rules.specs.Rows.{Entry, _∶_, entered, encode, hex, Row, Holds}
 
 abbrev entries-S6 : List Entry
 entries-S6 = 31 ∶ pos 5 ∷ 159 ∶ pos 1 ∷ 1183 ∶ neg 1 ∷ 1184 ∶ neg 1 ∷ 1185 ∶ pos 7 ∷ []

@@ -12,12 +12,11 @@ use Rattle.rules.specs.declared.Shape.{Shape}
 use Rattle.rules.specs.declared.Sizes.{Sizes}
 use Rattle.rules.specs.Ranges.{dimensionsInRange, parametersInRange}
 use Rattle.rules.specs.Refusals.{Numbered, refuse, _otherwise_, firstBelow, crossed, boundRefusal}
-use Rattle.rules.specs.Arrays.{Arrays, lengthsMatch, gathered, tableRefusal}
+use Rattle.rules.specs.Arrays.{Arrays, lengthsMatch, gathered, tableRefusal, arraysRefusal}
 use Rattle.proof_laws.specs.Sizes.{SizesInRange, dimensions}
 use Rattle.proof_laws.specs.FirstPlace.{refuse-yes, refuse-no, given, handed-on, first-cong}
 use Rattle.sheet_arrays.specs.Gathered.{least-at, most-at}
 use Rattle.sheet_arrays.specs.Lengths.{lengths-match}
-use Rattle.sheet_arrays.specs.Accepted.{arraysRefusal}
 use Rattle.sheet_arrays.specs.Tested.{arraysOutside, table-tested}
 
 -- n and m are small, so that no product wraps

@@ -1,8 +1,7 @@
--- Arrays that are not refused, and how refusal 8 follows.
+-- Arrays that are not refused.
 use mathlib.Core.Path.{_≡_}
-use mathlib.Core.Bool.{not}
 use mathlib.Core.List.{List}
-use mathlib.Core.Option.{Option, none}
+use mathlib.Core.Option.{none}
 use Prim.Native.Nat.{ℕ, _+_, _*_, _≤_}
 use native.Mathlib.Nat.{mul-le-mul}
 use native.Mathlib.Omega.{arith}
@@ -11,26 +10,13 @@ use lib.IntN.{ℤ}
 use lib.ListN.{length}
 use Rattle.rules.specs.Notation.{at}
 use Rattle.rules.specs.declared.Sizes.{Sizes}
-use Rattle.rules.specs.Refusals.{Numbered, refuse, _otherwise_}
-use Rattle.rules.specs.Output.{shortBuffer}
-use Rattle.rules.specs.Arrays.{Arrays, lengthsMatch, gathered, tableRefusal, sheetFrom, writeRefusal}
+use Rattle.rules.specs.Arrays.{Arrays, tableRefusal, sheetFrom, arraysRefusal}
 use Rattle.rules.specs.ReadBack.{presentIn, figuresPresent}
 use Rattle.proof_laws.specs.NotRefused.{otherwise-none, refuse-false}
-use Rattle.proof_laws.specs.Outputs.{otherwise-assoc}
 use Rattle.proof_laws.specs.Sizes.{SizesInRange, dimensions}
 use Rattle.sheet_arrays.specs.Lengths.{LengthsMatch, lengths-match}
 use Rattle.sheet_arrays.specs.Counted.{counted-few, present-is}
 use Rattle.sheet_arrays.specs.Laid.{sheet-length}
-
--- refusals 2, 4, 6 and 7 of the arrays
-unfoldable pub arraysRefusal : Sizes → Arrays → Option Numbered
-arraysRefusal z A = refuse 2 0 (not (lengthsMatch (z .shape) A)) otherwise tableRefusal z (gathered (z .shape) A)
-
--- 8 comes after them
-pub refused-8 : (z : Sizes) (A : Arrays) (room : ℕ)
-    → writeRefusal z A room ≡ arraysRefusal z A otherwise shortBuffer 8 (sheetFrom z A) room
-unfolding writeRefusal arraysRefusal
-refused-8 z A room = otherwise-assoc _ _ _
 
 module _ (z : Sizes) (A : Arrays) (accepted : arraysRefusal z A ≡ none) where
   pub lengths-in : LengthsMatch (z .shape) A

@@ -1,20 +1,13 @@
 -- The lengths of the arrays, read off their test.
 use mathlib.Core.Path.{_≡_}
 use mathlib.Core.Bool.{true}
-use mathlib.Core.List.{List}
 use Prim.Native.Nat.{_*_}
 use lib.Dec.{T}
 use lib.Ieee.Fits.{and-l, and-r}
-use lib.IntN.{ℤ}
 use lib.ListN.{length}
 use mir.Facts.{eqb-yes}
 use Rattle.rules.specs.declared.Shape.{Shape}
 use Rattle.rules.specs.Arrays.{Arrays, lengthsMatch}
-
--- six arrays, as a caller lends them
-abbrev pub arrays : (costs leastAmounts mostAmounts coefficients rightHandSides starts : List ℤ) → Arrays
-arrays c l u a b s =
-    record { costs = c; leastAmounts = l; mostAmounts = u; coefficients = a; rightHandSides = b; starts = s }
 
 pub record LengthsMatch (shape : Shape) (A : Arrays) : Type 0 where
   pub costs : length (A .costs) ≡ shape .materials

@@ -6,7 +6,7 @@
 --   Counted    how many entries there are
 --   Tested     refusal 6, array by array
 --   Laid       the bytes of the entries, and of the sheet
---   Accepted   arrays that are not refused, and how refusal 8 follows
+--   Accepted   arrays that are not refused
 pub mod Runs
 pub mod Gathered
 pub mod Listed

@@ -97,9 +97,9 @@ module _ (shape : Shape) (A : Arrays) (narrow : shape .materials ≤ 32) (few : 
   past row w none j a b = gathered-none shape A row j b (none j a)
 
   material-row : (row : ℕ) (f : ℕ → ℤ) → row ≤ 2 → ((j : ℕ) → j < n → T (keyOf row j) ≡ f j)
-      → run 0 (suc row * 64) T ≡ run 0 (row * 64) T ++ run (keyOf row 0) (n) f
+      → run 0 (suc row * 64) T ≡ run 0 (row * 64) T ++ run (keyOf row 0) n f
   material-row row f r there =
-      row-run T row (n) f (omega arith) there (past row _ (λ j a. past-materials shape row j r a))
+      row-run T row n f (omega arith) there (past row _ (λ j a. past-materials shape row j r a))
 
   no-row : run 0 (0 * 64) T ≡ []
   unfolding run
@@ -109,33 +109,33 @@ module _ (shape : Shape) (A : Arrays) (narrow : shape .materials ≤ 32) (few : 
   unfolding materialEntries
   materials-listed =
       material-row 2 _ (omega arith) (most-at shape A narrow)
-      ∙ ap (λ (xs : List Entry). xs ++ run (keyOf 2 0) (n) (at (A .mostAmounts)))
+      ∙ ap (λ (xs : List Entry). xs ++ run (keyOf 2 0) n (at (A .mostAmounts)))
       (material-row 1 _ (omega arith) (least-at shape A narrow)
-      ∙ ap (λ (xs : List Entry). xs ++ run (keyOf 1 0) (n) (at (A .leastAmounts)))
+      ∙ ap (λ (xs : List Entry). xs ++ run (keyOf 1 0) n (at (A .leastAmounts)))
       (material-row 0 _ (omega arith) (cost-at shape A narrow)
-      ∙ ap (λ (xs : List Entry). xs ++ run (keyOf 0 0) (n) (at (A .costs))) no-row))
+      ∙ ap (λ (xs : List Entry). xs ++ run (keyOf 0 0) n (at (A .costs))) no-row))
 
   module _ (i : ℕ) (l : i < shape .limits) where
     -- the last two columns of a limit's row
-    rhs-entry : entry (keyOf (3 + i) 0 + n) (T (keyOf (3 + i) (n)))
-        ≡ entry (keyOf (3 + i) (n)) (at (A .rightHandSides) i)
-    rhs-entry = let key : keyOf (3 + i) 0 + n ≡ keyOf (3 + i) (n) = omega arith in
+    rhs-entry : entry (keyOf (3 + i) 0 + n) (T (keyOf (3 + i) n))
+        ≡ entry (keyOf (3 + i) n) (at (A .rightHandSides) i)
+    rhs-entry = let key : keyOf (3 + i) 0 + n ≡ keyOf (3 + i) n = omega arith in
         λ k. entry (key k) (rhs-at shape A narrow i l k)
 
-    start-entry : entry (keyOf (3 + i) 0 + suc (n)) (T (keyOf (3 + i) (suc (n))))
+    start-entry : entry (keyOf (3 + i) 0 + suc n) (T (keyOf (3 + i) (suc n)))
         ≡ entry (keyOf (3 + i) (n + 1)) (at (A .starts) i)
     start-entry =
-        let key : keyOf (3 + i) 0 + suc (n) ≡ keyOf (3 + i) (n + 1) = omega arith in
-        let column : suc (n) ≡ n + 1 = omega arith in
+        let key : keyOf (3 + i) 0 + suc n ≡ keyOf (3 + i) (n + 1) = omega arith in
+        let column : suc n ≡ n + 1 = omega arith in
         (λ k. entry (key k) (T (keyOf (3 + i) (column k))))
         ∙ ap (entry (keyOf (3 + i) (n + 1))) (start-at shape A narrow i l)
 
     figures : run (keyOf (3 + i) 0) (n + 2) (λ j. T (keyOf (3 + i) j)) ≡ limit i
     unfolding limitEntries run
     figures =
-        let width : n + 2 ≡ suc (suc (n)) = omega arith in
+        let width : n + 2 ≡ suc (suc n) = omega arith in
         let coefficients =
-        run-cong (keyOf (3 + i) 0) (n) (λ j. T (keyOf (3 + i) j)) _ (coefficient-at shape A narrow i l) in
+        run-cong (keyOf (3 + i) 0) n (λ j. T (keyOf (3 + i) j)) _ (coefficient-at shape A narrow i l) in
         ap (λ (c : ℕ). run (keyOf (3 + i) 0) c (λ j. T (keyOf (3 + i) j))) width
         ∙ (λ k. (coefficients k ++ rhs-entry k) ++ start-entry k)
 
@@ -147,13 +147,13 @@ module _ (shape : Shape) (A : Arrays) (narrow : shape .materials ≤ 32) (few : 
 
   limits-listed : (i : ℕ) → i ≤ shape .limits → run 0 ((3 + i) * 64) T ≡ materials ++ limits i
   unfolding limitsEntries
-  limits-listed zero l = materials-listed ∙ sym (append-nil (materials))
+  limits-listed zero l = materials-listed ∙ sym (append-nil materials)
   limits-listed (suc i) l =
       let row : 3 + suc i ≡ suc (3 + i) = omega arith in
       ap (λ (r : ℕ). run 0 (r * 64) T) row
       ∙ limit-row i l
       ∙ ap (λ (xs : List Entry). xs ++ limit i) (limits-listed i (omega arith))
-      ∙ append-assoc (materials) _ _
+      ∙ append-assoc materials _ _
 
   -- the entries of the table are those of the arrays
   pub entries-listed : run 0 allKeys T ≡ entriesOf shape A

@@ -60,8 +60,7 @@ fn index_of(kind: Kind) -> usize
 }
 
 // The range of a kind of figure: an entry of the table.
-// for the writer and the editor of sheets, which are to use the same table
-pub fn range_of(kind: Kind) -> Range
+fn range_of(kind: Kind) -> Range
     ensures { λ r. ⌜ r ≡ rangeOf kind ⌝ }
 {
     RANGES[index_of(kind)]

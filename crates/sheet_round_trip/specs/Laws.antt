@@ -1,9 +1,10 @@
 -- What is promised of a sheet that is written from plain arrays: T13.7 to T13.10.
 use mathlib.Core.Path.{_≡_, refl, sym, ap, _∙_, subst}
-use mathlib.Core.Bool.{not}
+use mathlib.Core.Bool.{true, not}
 use mathlib.Core.List.{List}
 use mathlib.Core.Option.{none}
 use Prim.Native.Nat.{ℕ, _+_, _*_, _≤_}
+use native.Mathlib.Omega.{arith}
 use lib.ListN.{length, getD}
 use mir.Syntax.{w8, w32}
 use mir.Val.{Fits, SFits}
@@ -11,11 +12,12 @@ use Rattle.proof_laws.specs.FirstPlace.{refuse-no, handed-on}
 use Rattle.proof_laws.specs.NotRefused.{otherwise-none}
 use Rattle.proof_laws.specs.Outputs.{long-enough}
 use Rattle.rules.specs.declared.Sizes.{Sizes}
-use Rattle.rules.specs.Sheet.{sheetOf, tableOf, problemFrom, problem}
+use Rattle.rules.specs.Ranges.{mostEntries, largest}
+use Rattle.rules.specs.Sheet.{headerLength, sheetLength, sheetOf, tableOf, problemFrom, problem}
 use Rattle.rules.specs.Refusals.{layoutRefusal}
-use Rattle.rules.specs.Arrays.{Arrays, gathered, tableRefusal, sheetFrom, writeRefusal}
+use Rattle.rules.specs.Arrays.{Arrays, lengthsMatch, gathered, sheetFrom, arraysRefusal, writeRefusal}
 use Rattle.rules.specs.ReadBack.{SameFigures, ReadsAs, arraysOf, unplaced, figuresPresent}
-use Rattle.sheet_arrays.specs.Accepted.{arraysRefusal, refused-8, shape-in, wanted-is}
+use Rattle.sheet_arrays.specs.Accepted.{shape-in, few-present, wanted-is}
 use Rattle.sheet_written.specs.Accepted.{accepted-sizes}
 use Rattle.sheet_written.specs.BytesFit.{sizes-fit, table-fits}
 use Rattle.sheet_written.specs.ReadBack.{SizesFit, read-alone}
@@ -23,11 +25,12 @@ use Rattle.sheet_written.specs.Refused.{written-refused, written-accepted}
 use Rattle.sheet_written.specs.Same.{only-sheet}
 use Rattle.sheet_round_trip.specs.Fits.{gathered-shaped, accepted-fit, table-refusal, FiguresFit, gathered-fits}
 use Rattle.sheet_round_trip.specs.Figures.{figures-of, figures-at}
-use Rattle.sheet_round_trip.specs.Own.{own-figures, own-lengths, own-fit}
+use Rattle.sheet_round_trip.specs.Own.{own-figures, own-lengths, ProblemFits, own-fit}
 
 module _ (z : Sizes) (A : Arrays) (room : ℕ) (written : writeRefusal z A room ≡ none) where
   accepted : arraysRefusal z A ≡ none
-  accepted = otherwise-none _ _ (sym (refused-8 z A room) ∙ written) .0
+  unfolding writeRefusal
+  accepted = otherwise-none _ _ written .0
 
   -- T13.7: what is written is read back
   pub read-back : ReadsAs z A (sheetFrom z A)
@@ -50,13 +53,22 @@ module _ (z : Sizes) (A : Arrays) (room : ℕ) (written : writeRefusal z A room 
   sheet-length = wanted-is z A accepted
 
 -- T13.9: the reader refuses what the encoder makes of refused sizes and figures as the writer does
-pub refused-alike : (z : Sizes) (A : Arrays) → SizesFit z → FiguresFit A
-    → unplaced (layoutRefusal (sheetFrom z A)) ≡ tableRefusal z (gathered (z .shape) A)
-unfolding sheetFrom
-refused-alike z A sizes figures =
+pub refused-alike : (z : Sizes) (A : Arrays) → lengthsMatch (z .shape) A ≡ true → SizesFit z → FiguresFit A
+    → unplaced (layoutRefusal (sheetFrom z A)) ≡ arraysRefusal z A
+unfolding sheetFrom arraysRefusal
+refused-alike z A lengths sizes figures =
     written-refused z (gathered (z .shape) A)
     (record { sizes = sizes; values = λ q l. gathered-fits (z .shape) A figures q })
     (gathered-shaped (z .shape) A)
+    ∙ sym (handed-on _ (refuse-no 2 0 (ap not lengths)))
+
+-- T10.6: a buffer of the longest sheet's length takes every sheet
+pub never-8 : (z : Sizes) (A : Arrays) (room : ℕ) → arraysRefusal z A ≡ none → sheetLength (mostEntries largest) ≤ room
+    → writeRefusal z A room ≡ none
+unfolding writeRefusal headerLength
+never-8 z A room accepted long =
+    handed-on _ accepted
+    ∙ long-enough 8 (sheetFrom z A) (wanted-is z A accepted) (omega (arith, few-present z A accepted))
 
 -- T13.8: a table has a single sheet
 pub single-sheet : (z : Sizes) (A : Arrays) (s : List ℕ) → ((i : ℕ) → Fits w8 (getD s i 0)) → ReadsAs z A s
@@ -90,20 +102,20 @@ module _ (s : List ℕ) (bytes : (i : ℕ) → Fits w8 (getD s i 0)) (read : lay
   pub again-accepted : (room : ℕ) → length s ≤ room → writeRefusal z A room ≡ none
   unfolding writeRefusal problemFrom unplaced
   again-accepted room long =
-      let table : tableRefusal z (gathered (z .shape) A) ≡ none =
-      sym (refused-alike z A (sizes-fit s bytes) (own-fit (problem (sheetOf s)) (record {
+      let P = problem (sheetOf s) in
+      let figures : ProblemFits P = record {
         cost = λ j. fits _;
         least = λ j. fits _;
         most = λ j. fits _;
         coefficient = λ i j. fits _;
         rhs = λ i. fits _;
         startingMultiplier = λ i. fits _;
-      })))
+      } in
+      let arrays : arraysRefusal z A ≡ none =
+      sym (refused-alike z A (own-lengths P) (sizes-fit s bytes) (own-fit P figures))
       ∙ ap (λ (r : List ℕ). unplaced (layoutRefusal r)) written-again
       ∙ ap unplaced read in
-      handed-on _ (refuse-no 2 0 (ap not (own-lengths (problem (sheetOf s)))))
-      ∙ handed-on _ table
-      ∙ long-enough 8 (sheetFrom z A) (ap length written-again) long
+      handed-on _ arrays ∙ long-enough 8 (sheetFrom z A) (ap length written-again) long
     where
       fits : (q : ℕ) → SFits w32 (tableOf (sheetOf s) q)
       fits = table-fits s bytes

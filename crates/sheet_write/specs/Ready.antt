@@ -8,7 +8,7 @@ use Rattle.rules.specs.Arrays.{Arrays}
 use Rattle.rules.specs.ReadBack.{figuresPresent}
 use Rattle.sheet_arrays.specs.Lengths.{LengthsMatch}
 
--- the figures of a shape in its range
+-- at most 640 figures are not 0, so that no count wraps
 pub record Short (A : Arrays) : Type 0 where
   pub short : figuresPresent A ≤ 640
 

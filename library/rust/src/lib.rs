@@ -169,7 +169,7 @@ impl fmt::Display for Cause {
     fn fmt(&self, f: &mut fmt::Formatter) -> fmt::Result {
         f.write_str(match self {
             Cause::Short => "the sheet has under 12 bytes",
-            Cause::Dimensions => "n, m, the count of entries or an array's length is out of range",
+            Cause::Dimensions => "n, m or the count of entries is outside its range, or an array's length is wrong",
             Cause::Length => "the sheet's length does not fit its count of entries",
             Cause::Parameters => "p, D or k is outside its range",
             Cause::Key => "an entry's key names no figure or is out of order",

@@ -135,7 +135,7 @@ pub struct Table {
 }
 
 impl Table {
-    /// A table. [`Cause::Dimensions`] is the only refusal: a limit does not have a coefficient for each material. How
+    /// A table. [`Cause::Dimensions`] is the only refusal: a limit has more or fewer coefficients than materials. How
     /// many there are, and the figures, are looked at when the table is written.
     pub fn new(
         steps: Steps,

@@ -1,10 +1,10 @@
 -- The numbers are those of what the writer's answer stands for.
 use mathlib.Core.Path.{ap, _∙_}
 use borrow.Author.Needs.{needs}
+use Rattle.rules.specs.Sheet.{sized}
 use Rattle.rules.specs.Output.{lentAfter}
-use Rattle.rules.specs.Arrays.{sheetFrom}
-use Rattle.sheet_arrays.specs.Lengths.{arrays}
-use Rattle.batchplan_lib.specs.Wrote.{sized, pairOf}
+use Rattle.rules.specs.Arrays.{sheetFrom, arrays}
+use Rattle.batchplan_lib.specs.Wrote.{pairOf}
 use Rattle.batchplan_lib.proofs.batchplan_write_sheet.Statement.{statement}
 use Rattle.batchplan_lib.proofs.batchplan_write_sheet.Tie as tie
 

@@ -6,8 +6,8 @@ use borrow.Author.Tests.{not-true, not-false}
 use Rattle.rules.specs.declared.Sizes.{Sizes}
 use Rattle.rules.specs.Ranges.{dimensionsInRange, parametersInRange}
 use Rattle.rules.specs.Refusals.{numberOf, numbered, refusalOf}
-use Rattle.rules.specs.Arrays.{Arrays, lengthsMatch}
-use Rattle.sheet_arrays.specs.Lengths.{arrays, lengths-match}
+use Rattle.rules.specs.Arrays.{Arrays, lengthsMatch, arrays}
+use Rattle.sheet_arrays.specs.Lengths.{lengths-match}
 use Rattle.sheet_array_checks.specs.Checks.{shape-refused, small, lengths-refused, parameters-refused}
 use Rattle.sheet_array_checks.specs.Checks.{figures-refused, amounts-decide}
 use Rattle.sheet_array_checks.proofs.check_arrays.Statement.{statement}

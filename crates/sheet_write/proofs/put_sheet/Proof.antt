@@ -3,10 +3,9 @@ use mathlib.Core.Path.{ap, _∙_}
 use native.Mathlib.Omega.{arith}
 use lib.ListN.{length}
 use borrow.Author.Needs.{needs}
-use Rattle.rules.specs.Arrays.{Arrays}
+use Rattle.rules.specs.Arrays.{Arrays, arrays}
 use Rattle.bytes_write.specs.Written.{writtenAt}
 use Rattle.sheet_arrays.specs.Listed.{entriesOf}
-use Rattle.sheet_arrays.specs.Lengths.{arrays}
 use Rattle.sheet_put.specs.Put.{putEntries}
 use Rattle.sheet_write.specs.Whole.{all-entries, sizes-fit, sheet-put}
 use Rattle.sheet_write.proofs.put_sheet.Statement.{statement}

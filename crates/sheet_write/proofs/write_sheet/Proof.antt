@@ -8,12 +8,11 @@ use lib.ListN.{length}
 use Rattle.rules.specs.declared.Sizes.{Sizes}
 use Rattle.rules.specs.Refusals.{numbered, numberOf, refusalOf}
 use Rattle.rules.specs.Output.{shortBuffer}
-use Rattle.rules.specs.Arrays.{Arrays, sheetFrom, writeRefusal}
+use Rattle.rules.specs.Arrays.{Arrays, sheetFrom, writeRefusal, arrays, arraysRefusal}
 use Rattle.proof_laws.specs.FirstPlace.{given, handed-on}
 use Rattle.proof_laws.specs.Outputs.{writes-refused, writes-all, too-short, long-enough}
 use Rattle.bytes_write.specs.Written.{written}
-use Rattle.sheet_arrays.specs.Lengths.{arrays}
-use Rattle.sheet_arrays.specs.Accepted.{arraysRefusal, refused-8, lengths-in, shape-in, few-present, wanted-is}
+use Rattle.sheet_arrays.specs.Accepted.{lengths-in, shape-in, few-present, wanted-is}
 use Rattle.sheet_write.proofs.write_sheet.Statement.{statement}
 use Rattle.sheet_write.proofs.write_sheet.Tie as tie
 
@@ -53,7 +52,8 @@ module _ (c : tie.After-count-entries) where
 
   refusal-is : writeRefusal (z (s told)) (A (s told)) (length (s told .args .sheet .now))
       ≡ shortBuffer 8 (sheetFrom (z (s told)) (A (s told))) (length (s told .args .sheet .now))
-  refusal-is = refused-8 _ _ _ ∙ handed-on _ (accepted told)
+  unfolding writeRefusal
+  refusal-is = handed-on _ (accepted told)
 
 mul-wanted : tie.Need-mul-wanted
 mul-wanted c = record { fits = omega (arith, few c) }
@@ -97,13 +97,12 @@ returns-3 c =
 
 -- ---- the figures are refused
 returns-2 : tie.Need-returns-2
-unfolding refusalOf
+unfolding refusalOf writeRefusal
 returns-2 c =
     let refused = c .before in
     let tested = refused .before .before in
     writes-refused _
-    (refused-8 _ _ _
-    ∙ given _ (sym (tested .check-arrays .ensures) ∙ ap refusalOf (refused .verdict .given .1)))
+    (given _ (sym (tested .check-arrays .ensures) ∙ ap refusalOf (refused .verdict .given .1)))
 
 pub write-sheet-spec : {M : Type 1} → statement M
 write-sheet-spec =
