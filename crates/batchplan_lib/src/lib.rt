@@ -9,7 +9,7 @@ ghost use Rattle.rules.specs.Answers.{outcome};
 ghost use Rattle.rules.specs.Listing.{listing, Listed};
 ghost use Rattle.rules.specs.Output.{writing};
 ghost use Rattle.rules.specs.Version.{version};
-ghost use Rattle.rules.specs.Arrays.{arrays};
+ghost use Rattle.rules_arrays.specs.Arrays.{arrays};
 ghost use Rattle.batchplan_lib.specs.Called.{numbersOf, Called};
 ghost use Rattle.batchplan_lib.specs.Wrote.{pairOf, Wrote};
 use out_layout::LONGEST;

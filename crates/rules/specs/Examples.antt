@@ -10,6 +10,7 @@ use lib.IntN.{pos}
 use native.Mathlib.Omega.{arith}
 use Rattle.rules.specs.Notation.{neg}
 use Rattle.rules.specs.declared.Answer.the-variants.{Plan, Refused}
+use Rattle.rules.specs.declared.Output.{Output}
 use Rattle.rules.specs.declared.Kind.{Kind}
 use Rattle.rules.specs.declared.Range.{Range}
 use Rattle.rules.specs.declared.Sizes.{Sizes}
@@ -21,9 +22,10 @@ use Rattle.rules.specs.Sheet.{headerLength, sheetLength}
 use Rattle.rules.specs.Encoder.{sizesWith}
 use Rattle.rules.specs.Ranges.{ranges, indexOf, rangeOf, mostEntries, largest}
 use Rattle.rules.specs.Record.{recordLength, longestRecord}
-use Rattle.rules.specs.Refusals.{layoutRefusal}
+use Rattle.rules.specs.Refusals.{numberOf, numbered, refuse, layoutRefusal}
+use Rattle.rules.specs.Output.{wrote, writing, writingOf, lentAfter, shortBuffer}
 use Rattle.rules.specs.Listing.{text}
-use Rattle.rules.specs.Rows.{_∶_, header, encode, hex, Row, Holds, AllHold, _and_}
+use Rattle.rules.specs.Rows.{_∶_, header, encode, hex, Row, lent, Holds, AllHold, _and_}
 use Rattle.rules.specs.Marked.{C1, C3, C7}
 
 -- a row for a refusal
@@ -319,3 +321,18 @@ steps-hold =
     and (refl, refl, refl, refl)
     and (refl, refl, refl, refl)
     and tt
+
+-- ---- what writing three bytes to a lent buffer gives: an answer, and the buffer afterwards
+pub written-3 :
+    (writingOf (1 ∷ 2 ∷ 3 ∷ []) (shortBuffer 8 (1 ∷ 2 ∷ 3 ∷ []) 5) ≡ wrote 3) ×
+    (lentAfter (1 ∷ 2 ∷ 3 ∷ []) (lent 5) (wrote 3) ≡ 1 ∷ 2 ∷ 3 ∷ 170 ∷ 170 ∷ [])
+unfolding writingOf shortBuffer refuse lentAfter
+written-3 = refl and refl
+
+-- a buffer of two bytes is too short, and is as lent
+pub not-written-3 :
+    (writingOf (1 ∷ 2 ∷ 3 ∷ []) (shortBuffer 8 (1 ∷ 2 ∷ 3 ∷ []) 2)
+    ≡ writing (Output.Refused (record { place = 3; cause = Buffer }))) ×
+    (lentAfter (1 ∷ 2 ∷ 3 ∷ []) (lent 2) (writing (Output.Refused (record { place = 3; cause = Buffer }))) ≡ lent 2)
+unfolding writing numbered numberOf writingOf shortBuffer refuse lentAfter
+not-written-3 = refl and refl

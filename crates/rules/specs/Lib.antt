@@ -1,5 +1,5 @@
--- docs/TASK.md as definitions that compute. This is what a reader must believe; read it beside TASK.md, whose rules the
--- comments name by anchor (T4.3), in this order:
+-- docs/TASK.md as definitions that compute. This is what a reader must believe, and for T13 `rules_arrays` besides;
+-- read it beside TASK.md, whose rules the comments name by anchor (T4.3), in this order:
 --   Notation   −n, the test for 0, the larger of two, finite sums, tests at some place, lists by their places
 --   Problem    materials, costs, bounds and limits; feasible points
 --   Bytes      little-endian numbers of a width
@@ -12,18 +12,15 @@
 --   Refusals   the numbers of the refusals, and refusals 1 to 7
 --   Answers    the answer to a sheet, and the lent buffer afterwards
 --   Output     what a function that writes a sheet or a text answers, and the lent buffer afterwards
---   Arrays     a sheet written from plain arrays
 --   Listing    the text of an answer, and what writing it to lent bytes gives
 --   Margins    the statement of T9.3 to T9.7
 --   Promise    T9, as planning a sheet keeps it
---   ReadBack   what T13.7 to T13.10 say of a sheet that is written
 --   Version    the number that a caller can ask for
 -- The rest holds these definitions against worked sheets:
 --   Rows       how a table of sheets is written
 --   Marked     C1 to C10
 --   Started    S1 to S9: sheets with starts
 --   Examples   the examples of the refusals, their order, the ends of the ranges, and steps worked by hand
---   Drafts     W1 to W3: sheets written from arrays, and arrays that are refused
 --   Points     feasible points and points just outside; what T9.3 to T9.7 say in numbers; claims refuted
 -- Signs: `pos n` and `negsuc n` are the integers n and −(n + 1); `+ℤ -ℤ *ℤ` reckon with integers, and `≤ℤ <ℤ` compare
 -- them. `ltb leb eqb` test naturals for < ≤ =, and `ltZ leZ` integers for < ≤.
@@ -50,15 +47,12 @@ pub mod Record
 pub mod Refusals
 pub mod Answers
 pub mod Output
-pub mod Arrays
 pub mod Listing
 pub mod Margins
 pub mod Promise
-pub mod ReadBack
 pub mod Version
 pub mod Rows
 pub mod Marked
 pub mod Started
 pub mod Examples
 pub mod Points
-pub mod Drafts

@@ -12,7 +12,7 @@ use Rattle.rules.specs.declared.Shape.{Shape}
 use Rattle.rules.specs.declared.Sizes.{Sizes}
 use Rattle.rules.specs.Ranges.{dimensionsInRange, parametersInRange}
 use Rattle.rules.specs.Refusals.{Numbered, refuse, _otherwise_, firstBelow, crossed, boundRefusal}
-use Rattle.rules.specs.Arrays.{Arrays, lengthsMatch, gathered, tableRefusal, arraysRefusal}
+use Rattle.rules_arrays.specs.Arrays.{Arrays, lengthsMatch, gathered, tableRefusal, arraysRefusal}
 use Rattle.proof_laws.specs.Sizes.{SizesInRange, dimensions}
 use Rattle.proof_laws.specs.FirstPlace.{refuse-yes, refuse-no, given, handed-on, first-cong}
 use Rattle.sheet_arrays.specs.Gathered.{least-at, most-at}

@@ -2,8 +2,8 @@
 ghost use mathlib.Core.Path.{_≡_};
 ghost use lib.ListN.{length};
 ghost use Rattle.rules.specs.Refusals.{refusalOf};
-ghost use Rattle.rules.specs.Arrays.{lengthsMatch, arrays, arraysRefusal};
-ghost use Rattle.rules.specs.ReadBack.{presentIn};
+ghost use Rattle.rules_arrays.specs.Arrays.{lengthsMatch, arrays, arraysRefusal};
+ghost use Rattle.rules_arrays.specs.ReadBack.{presentIn};
 ghost use Rattle.sheet_arrays.specs.Runs.{entry};
 ghost use Rattle.sheet_arrays.specs.Tested.{outside, anyOutside, arraysOutside};
 ghost use Rattle.sheet_array_checks.specs.Checks.{SmallShape, amountsRefusal, AsMany};

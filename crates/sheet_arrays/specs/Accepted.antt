@@ -10,8 +10,8 @@ use lib.IntN.{ℤ}
 use lib.ListN.{length}
 use Rattle.rules.specs.Notation.{at}
 use Rattle.rules.specs.declared.Sizes.{Sizes}
-use Rattle.rules.specs.Arrays.{Arrays, tableRefusal, sheetFrom, arraysRefusal}
-use Rattle.rules.specs.ReadBack.{presentIn, figuresPresent}
+use Rattle.rules_arrays.specs.Arrays.{Arrays, tableRefusal, sheetFrom, arraysRefusal}
+use Rattle.rules_arrays.specs.ReadBack.{presentIn, figuresPresent}
 use Rattle.proof_laws.specs.NotRefused.{otherwise-none, refuse-false}
 use Rattle.proof_laws.specs.Sizes.{SizesInRange, dimensions}
 use Rattle.sheet_arrays.specs.Lengths.{LengthsMatch, lengths-match}

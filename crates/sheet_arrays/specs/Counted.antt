@@ -11,8 +11,8 @@ use Rattle.rules.specs.Notation.{isZero, at}
 use Rattle.rules.specs.declared.Shape.{Shape}
 use Rattle.rules.specs.Sheet.{keyOf}
 use Rattle.rules.specs.Encoder.{picked}
-use Rattle.rules.specs.Arrays.{Arrays}
-use Rattle.rules.specs.ReadBack.{presentIn, figuresPresent}
+use Rattle.rules_arrays.specs.Arrays.{Arrays}
+use Rattle.rules_arrays.specs.ReadBack.{presentIn, figuresPresent}
 use Rattle.sheet_arrays.specs.Runs.{Entry, entry, entry-short, run, run-split}
 use Rattle.sheet_arrays.specs.Lengths.{LengthsMatch}
 use Rattle.sheet_arrays.specs.Listed.{materialEntries, limitEntries, limitsEntries, entriesOf}

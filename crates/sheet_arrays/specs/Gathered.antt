@@ -11,7 +11,7 @@ use Rattle.rules.specs.declared.Shape.{Shape}
 use Rattle.rules.specs.Sheet.{keyOf}
 use Rattle.rules.specs.Ranges.{kindAt}
 use Rattle.rules.specs.Refusals.{noFigureAt}
-use Rattle.rules.specs.Arrays.{Arrays, figureOf, gathered}
+use Rattle.rules_arrays.specs.Arrays.{Arrays, figureOf, gathered}
 use Rattle.proof_laws.specs.Entries.{key-parts, coefficient-kind, rhs-kind, start-kind}
 
 -- ---- where the shape has a figure

@@ -9,8 +9,8 @@ use Rattle.rules.specs.declared.Sizes.{Sizes}
 use Rattle.rules.specs.Bytes.{unsignedBytes, signedBytes, laid}
 use Rattle.rules.specs.Sheet.{Table, headerLength}
 use Rattle.rules.specs.Encoder.{laidOut, sizesWith, allKeys, keysOf, written}
-use Rattle.rules.specs.Arrays.{Arrays, gathered, sheetFrom}
-use Rattle.rules.specs.ReadBack.{figuresPresent}
+use Rattle.rules_arrays.specs.Arrays.{Arrays, gathered, sheetFrom}
+use Rattle.rules_arrays.specs.ReadBack.{figuresPresent}
 use Rattle.bytes_write.specs.Number.{length-unsigned, length-signed}
 use Rattle.sheet_arrays.specs.Runs.{Entry, run, run-table}
 use Rattle.sheet_arrays.specs.Lengths.{LengthsMatch}

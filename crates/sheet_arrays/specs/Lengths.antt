@@ -7,7 +7,7 @@ use lib.Ieee.Fits.{and-l, and-r}
 use lib.ListN.{length}
 use mir.Facts.{eqb-yes}
 use Rattle.rules.specs.declared.Shape.{Shape}
-use Rattle.rules.specs.Arrays.{Arrays, lengthsMatch}
+use Rattle.rules_arrays.specs.Arrays.{Arrays, lengthsMatch}
 
 pub record LengthsMatch (shape : Shape) (A : Arrays) : Type 0 where
   pub costs : length (A .costs) ≡ shape .materials

@@ -13,7 +13,7 @@ use Rattle.rules.specs.declared.Shape.{Shape}
 use Rattle.rules.specs.Sheet.{Table, keyOf, rowOf, columnOf}
 use Rattle.rules.specs.Encoder.{allKeys}
 use Rattle.rules.specs.Refusals.{noFigureAt}
-use Rattle.rules.specs.Arrays.{Arrays, gathered}
+use Rattle.rules_arrays.specs.Arrays.{Arrays, gathered}
 use Rattle.proof_laws.specs.Entries.{parts-key, past-materials, past-starts, past-limits}
 use Rattle.sheet_arrays.specs.Runs.{Entry, entry, run, run-cong, run-none, run-split}
 use Rattle.sheet_arrays.specs.Gathered.{gathered-none}

@@ -15,7 +15,7 @@ use Rattle.rules.specs.Sheet.{keyOf}
 use Rattle.rules.specs.Ranges.{rangeOf, kindAt, inRange}
 use Rattle.rules.specs.Encoder.{allKeys}
 use Rattle.rules.specs.Refusals.{valueBad}
-use Rattle.rules.specs.Arrays.{Arrays, gathered, figureBad}
+use Rattle.rules_arrays.specs.Arrays.{Arrays, gathered, figureBad}
 use Rattle.proof_laws.specs.Below.{any-cong}
 use Rattle.proof_laws.specs.Entries.{key-parts, coefficient-kind, rhs-kind, start-kind}
 use Rattle.sheet_arrays.specs.Runs.{Entry, entry, run}

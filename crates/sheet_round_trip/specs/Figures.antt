@@ -12,8 +12,8 @@ use Rattle.rules.specs.declared.Sizes.{Sizes}
 use Rattle.rules.specs.Sheet.{Table, keyOf, problemFrom}
 use Rattle.rules.specs.Encoder.{allKeys}
 use Rattle.rules.specs.Refusals.{noFigureAt}
-use Rattle.rules.specs.Arrays.{Arrays, gathered}
-use Rattle.rules.specs.ReadBack.{SameFigures}
+use Rattle.rules_arrays.specs.Arrays.{Arrays, gathered}
+use Rattle.rules_arrays.specs.ReadBack.{SameFigures}
 use Rattle.sheet_arrays.specs.Gathered.{cost-at, least-at, most-at, coefficient-at, rhs-at, start-at}
 
 module _ (z : Sizes) (A : Arrays) (U : Table) (narrow : z .shape .materials ≤ 32) where

@@ -24,7 +24,7 @@ use Rattle.rules.specs.Sheet.{rowOf, columnOf}
 use Rattle.rules.specs.Ranges.{ranges, indexOf, rangeOf, kindAt, inRange, between, parametersInRange}
 use Rattle.rules.specs.Encoder.{allKeys}
 use Rattle.rules.specs.Refusals.{noFigureAt, valueBad}
-use Rattle.rules.specs.Arrays.{Arrays, figureOf, gathered, figureBad, tableRefusal, arraysRefusal}
+use Rattle.rules_arrays.specs.Arrays.{Arrays, figureOf, gathered, figureBad, tableRefusal, arraysRefusal}
 use Rattle.sheet_arrays.specs.Accepted.{shape-in}
 use Rattle.sheet_written.specs.ReadBack.{Fit}
 use Rattle.sheet_written.specs.Shaped.{Shaped}

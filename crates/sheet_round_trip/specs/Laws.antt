@@ -15,8 +15,8 @@ use Rattle.rules.specs.declared.Sizes.{Sizes}
 use Rattle.rules.specs.Ranges.{mostEntries, largest}
 use Rattle.rules.specs.Sheet.{headerLength, sheetLength, sheetOf, tableOf, problemFrom, problem}
 use Rattle.rules.specs.Refusals.{layoutRefusal}
-use Rattle.rules.specs.Arrays.{Arrays, lengthsMatch, gathered, sheetFrom, arraysRefusal, writeRefusal}
-use Rattle.rules.specs.ReadBack.{SameFigures, ReadsAs, arraysOf, unplaced, figuresPresent}
+use Rattle.rules_arrays.specs.Arrays.{Arrays, lengthsMatch, gathered, sheetFrom, arraysRefusal, writeRefusal}
+use Rattle.rules_arrays.specs.ReadBack.{SameFigures, ReadsAs, arraysOf, unplaced, figuresPresent}
 use Rattle.sheet_arrays.specs.Accepted.{shape-in, few-present, wanted-is}
 use Rattle.sheet_written.specs.Accepted.{accepted-sizes}
 use Rattle.sheet_written.specs.BytesFit.{sizes-fit, table-fits}

@@ -14,8 +14,8 @@ use Rattle.proof_integer.specs.Vector.{length-tabulate, at-tabulate}
 use Rattle.proof_integer.specs.Tabulated.{at-past}
 use Rattle.rules.specs.Notation.{tabulate, at}
 use Rattle.rules.specs.Problem.{Problem}
-use Rattle.rules.specs.Arrays.{lengthsMatch}
-use Rattle.rules.specs.ReadBack.{SameFigures, arraysOf}
+use Rattle.rules_arrays.specs.Arrays.{lengthsMatch}
+use Rattle.rules_arrays.specs.ReadBack.{SameFigures, arraysOf}
 use Rattle.sheet_round_trip.specs.Fits.{FiguresFit}
 
 -- place n·i + j of n figures for each limit is figure j of limit i

@@ -5,7 +5,7 @@ use lib.IntN.{ℤ}
 use lib.ListN.{length}
 use Rattle.rules.specs.Notation.{at}
 use Rattle.rules.specs.declared.Shape.{Shape}
-use Rattle.rules.specs.Arrays.{Arrays}
+use Rattle.rules_arrays.specs.Arrays.{Arrays}
 use Rattle.sheet_arrays.specs.Lengths.{LengthsMatch}
 use Rattle.sheet_arrays.specs.Runs.{run}
 use Rattle.sheet_arrays.specs.Listed.{materialEntries, limitEntries, limitsEntries, entriesOf}

@@ -5,7 +5,7 @@ ghost use mathlib.Core.Path.{_≡_};
 ghost use Rattle.rules.specs.Notation.{at};
 ghost use Rattle.sheet_arrays.specs.Runs.{run};
 ghost use Rattle.sheet_arrays.specs.Listed.{materialEntries, limitEntries, limitsEntries, entriesOf};
-ghost use Rattle.rules.specs.Arrays.{arrays};
+ghost use Rattle.rules_arrays.specs.Arrays.{arrays};
 ghost use Rattle.sheet_put.specs.Put.{Put, putEntries};
 ghost use Rattle.sheet_rows.specs.Ready.{RunReady, LimitReady, LimitsReady, MaterialsReady, EntriesReady};
 use rules::Shape;

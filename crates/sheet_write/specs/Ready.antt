@@ -4,8 +4,8 @@ use mathlib.Core.List.{List}
 use Prim.Native.Nat.{ℕ, _+_, _*_, _≤_}
 use lib.ListN.{length}
 use Rattle.rules.specs.declared.Sizes.{Sizes}
-use Rattle.rules.specs.Arrays.{Arrays}
-use Rattle.rules.specs.ReadBack.{figuresPresent}
+use Rattle.rules_arrays.specs.Arrays.{Arrays}
+use Rattle.rules_arrays.specs.ReadBack.{figuresPresent}
 use Rattle.sheet_arrays.specs.Lengths.{LengthsMatch}
 
 -- at most 640 figures are not 0, so that no count wraps

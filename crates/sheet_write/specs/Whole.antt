@@ -6,7 +6,7 @@ use native.Mathlib.Omega.{arith}
 use lib.ListN.{length, length-append}
 use Rattle.rules.specs.declared.Sizes.{Sizes}
 use Rattle.rules.specs.Sheet.{headerLength}
-use Rattle.rules.specs.Arrays.{Arrays, sheetFrom}
+use Rattle.rules_arrays.specs.Arrays.{Arrays, sheetFrom}
 use Rattle.bytes_write.specs.Written.{written, writtenAt}
 use Rattle.bytes_write.specs.Placed.{length-placed, placed-on}
 use Rattle.sheet_arrays.specs.Runs.{Entry}

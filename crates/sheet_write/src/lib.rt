@@ -2,8 +2,8 @@
 ghost use mathlib.Core.Path.{_≡_};
 ghost use lib.ListN.{length};
 ghost use Rattle.rules.specs.Output.{Writes};
-ghost use Rattle.rules.specs.Arrays.{sheetFrom, writeRefusal, arrays};
-ghost use Rattle.rules.specs.ReadBack.{figuresPresent};
+ghost use Rattle.rules_arrays.specs.Arrays.{sheetFrom, writeRefusal, arrays};
+ghost use Rattle.rules_arrays.specs.ReadBack.{figuresPresent};
 ghost use Rattle.bytes_write.specs.Written.{written};
 ghost use Rattle.sheet_write.specs.Ready.{Short, SheetReady};
 use rules::Cause;

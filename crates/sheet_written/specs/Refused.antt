@@ -19,8 +19,8 @@ use Rattle.rules.specs.Ranges.{dimensionsInRange, parametersInRange}
 use Rattle.rules.specs.Encoder.{allKeys, keysOf, written}
 use Rattle.rules.specs.Refusals.{refuse, _otherwise_, firstBelow, noFigureAt, valueBad, crossed, boundRefusal}
 use Rattle.rules.specs.Refusals.{badKey, badValue, sizesRefusal, keyRefusal, valueRefusal, layoutRefusal}
-use Rattle.rules.specs.Arrays.{figureBad, tableRefusal}
-use Rattle.rules.specs.ReadBack.{unplaced}
+use Rattle.rules_arrays.specs.Arrays.{figureBad, tableRefusal}
+use Rattle.rules_arrays.specs.ReadBack.{unplaced}
 use Rattle.sheet_written.specs.Support.{present, absent-zero, keys-below, keys-present}
 use Rattle.sheet_written.specs.ReadBack.{Fit, ReadsTable, read-alone, length-written}
 use Rattle.sheet_written.specs.Shaped.{Shaped}

@@ -6,7 +6,7 @@ use Prim.Native.Nat.{ℕ, zero, suc}
 use lib.Dec.{eqb}
 use Rattle.rules.specs.Notation.{anyBelow}
 use Rattle.rules.specs.Refusals.{Numbered, refuse, _otherwise_, firstBelow}
-use Rattle.rules.specs.ReadBack.{unplaced}
+use Rattle.rules_arrays.specs.ReadBack.{unplaced}
 
 -- where there is none with the place 0 for 6, there is none
 pub unplaced-none : (a : Option Numbered) → unplaced a ≡ none → a ≡ none

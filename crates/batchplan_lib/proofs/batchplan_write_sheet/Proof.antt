@@ -1,25 +1,18 @@
 -- The numbers are those of what the writer's answer stands for.
-use mathlib.Core.Path.{ap, _∙_}
 use borrow.Author.Needs.{needs}
 use Rattle.rules.specs.Sheet.{sized}
-use Rattle.rules.specs.Output.{lentAfter}
-use Rattle.rules.specs.Arrays.{sheetFrom, arrays}
-use Rattle.batchplan_lib.specs.Wrote.{pairOf}
+use Rattle.rules_arrays.specs.Arrays.{arrays}
+use Rattle.batchplan_lib.specs.Wrote.{wrote-of}
 use Rattle.batchplan_lib.proofs.batchplan_write_sheet.Statement.{statement}
 use Rattle.batchplan_lib.proofs.batchplan_write_sheet.Tie as tie
 
 returns : tie.Need-returns
 returns c =
     let wrote = c .before .before .before in
-    let start = wrote .before .before .before in
-    let z = sized (start .args .n) (start .args .m) (start .args .p) (start .args .d) (start .args .k) in
-    let A = arrays (start .args .cost .now) (start .args .least .now) (start .args .most .now) (start .args .a .now)
-    (start .args .b .now) (start .args .start .now) in
-    let promise = wrote .write-sheet .ensures in
-    record {
-      numbers = c .pair-of .ensures ∙ ap pairOf (promise .answered);
-      buffer = promise .buffer ∙ ap (lentAfter (sheetFrom z A) (start .args .sheet .now)) (promise .answered);
-    }
+    let a = wrote .before .before .before .args in
+    wrote-of (sized (a .n) (a .m) (a .p) (a .d) (a .k))
+    (arrays (a .cost .now) (a .least .now) (a .most .now) (a .a .now) (a .b .now) (a .start .now))
+    (wrote .write-sheet .ensures) (c .pair-of .ensures)
 
 pub batchplan-write-sheet-spec : {M : Type 1} → statement M
 batchplan-write-sheet-spec =

@@ -6,7 +6,7 @@ use borrow.Author.Tests.{not-true, not-false}
 use Rattle.rules.specs.declared.Sizes.{Sizes}
 use Rattle.rules.specs.Ranges.{dimensionsInRange, parametersInRange}
 use Rattle.rules.specs.Refusals.{numberOf, numbered, refusalOf}
-use Rattle.rules.specs.Arrays.{Arrays, lengthsMatch, arrays}
+use Rattle.rules_arrays.specs.Arrays.{Arrays, lengthsMatch, arrays}
 use Rattle.sheet_arrays.specs.Lengths.{lengths-match}
 use Rattle.sheet_array_checks.specs.Checks.{shape-refused, small, lengths-refused, parameters-refused}
 use Rattle.sheet_array_checks.specs.Checks.{figures-refused, amounts-decide}

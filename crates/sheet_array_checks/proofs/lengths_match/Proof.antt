@@ -2,7 +2,7 @@
 use mathlib.Core.Path.{refl}
 use native.Mathlib.Omega.{arith}
 use native.Mathlib.Nat.{mul-le-mul}
-use Rattle.rules.specs.Arrays.{lengthsMatch}
+use Rattle.rules_arrays.specs.Arrays.{lengthsMatch}
 use Rattle.sheet_array_checks.proofs.lengths_match.Statement.{statement}
 use Rattle.sheet_array_checks.proofs.lengths_match.Tie as tie
 

@@ -3,7 +3,7 @@ use mathlib.Core.Path.{_≡_}
 use Prim.Native.Nat.{_+_, _≤_}
 use native.Mathlib.Omega.{arith}
 use borrow.Author.Needs.{needs}
-use Rattle.rules.specs.ReadBack.{presentIn, figuresPresent}
+use Rattle.rules_arrays.specs.ReadBack.{presentIn, figuresPresent}
 use Rattle.sheet_write.proofs.count_entries.Statement.{statement}
 use Rattle.sheet_write.proofs.count_entries.Tie as tie
 

@@ -3,7 +3,7 @@ use mathlib.Core.Path.{ap, _∙_}
 use native.Mathlib.Omega.{arith}
 use lib.ListN.{length}
 use borrow.Author.Needs.{needs}
-use Rattle.rules.specs.Arrays.{Arrays, arrays}
+use Rattle.rules_arrays.specs.Arrays.{Arrays, arrays}
 use Rattle.bytes_write.specs.Written.{writtenAt}
 use Rattle.sheet_arrays.specs.Listed.{entriesOf}
 use Rattle.sheet_put.specs.Put.{putEntries}

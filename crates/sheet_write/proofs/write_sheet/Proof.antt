@@ -8,7 +8,7 @@ use lib.ListN.{length}
 use Rattle.rules.specs.declared.Sizes.{Sizes}
 use Rattle.rules.specs.Refusals.{numbered, numberOf, refusalOf}
 use Rattle.rules.specs.Output.{shortBuffer}
-use Rattle.rules.specs.Arrays.{Arrays, sheetFrom, writeRefusal, arrays, arraysRefusal}
+use Rattle.rules_arrays.specs.Arrays.{Arrays, sheetFrom, writeRefusal, arrays, arraysRefusal}
 use Rattle.proof_laws.specs.FirstPlace.{given, handed-on}
 use Rattle.proof_laws.specs.Outputs.{writes-refused, writes-all, too-short, long-enough}
 use Rattle.bytes_write.specs.Written.{written}

@@ -5,25 +5,25 @@ use mathlib.Core.List.{List, [], _∷_, _++_}
 use mathlib.Core.Option.{some}
 use lib.ListN.{length, replicate, drop}
 use lib.IntN.{ℤ, pos}
 use Rattle.rules.specs.declared.Cause.{Cause}
 use Rattle.rules.specs.declared.Cause.the-variants.{Dimensions, Parameters, Value, Bounds, Buffer}
 use Rattle.rules.specs.declared.Output.{Output}
 use Rattle.rules.specs.declared.Sizes.{Sizes}
 use Rattle.rules.specs.Notation.{neg, isZero, anyBelow}
 use Rattle.rules.specs.Bytes.{unsignedBytes, signedBytes, laid}
 use Rattle.rules.specs.Sheet.{sized, sheetOf, problem}
 use Rattle.rules.specs.Ranges.{ranges, indexOf, rangeOf, kindAt, inRange, between, dimensionsInRange}
 use Rattle.rules.specs.Ranges.{parametersInRange}
 use Rattle.rules.specs.Encoder.{laidOut, picked, keysOf, written}
 use Rattle.rules.specs.Refusals.{numberOf, numbered, refuse, _otherwise_, firstBelow, noFigureAt, valueBad}
 use Rattle.rules.specs.Refusals.{crossed, boundRefusal}
 use Rattle.rules.specs.Output.{writing, writingOf, lentAfter, shortBuffer}
-use Rattle.rules.specs.Arrays.{Arrays, arrays, lengthsMatch, figureOf, gathered, figureBad, tableRefusal}
-use Rattle.rules.specs.Arrays.{sheetFrom, arraysRefusal, writeRefusal}
-use Rattle.rules.specs.ReadBack.{arraysOf, unplaced, presentIn, figuresPresent}
+use Rattle.rules_arrays.specs.Arrays.{Arrays, arrays, lengthsMatch, figureOf, gathered, figureBad, tableRefusal}
+use Rattle.rules_arrays.specs.Arrays.{sheetFrom, arraysRefusal, writeRefusal}
+use Rattle.rules_arrays.specs.ReadBack.{arraysOf, unplaced, presentIn, figuresPresent}
 use Rattle.rules.specs.Rows.{hex, nibble, unspaced, pairs, lent, Holds, _and_}
 use Rattle.rules.specs.Marked.{C1}
 use Rattle.rules.specs.Listing.{text}
 
 -- Sizes, arrays and the length of the lent buffer; and what must come out: the answer, and the bytes (none for a
 -- refusal).

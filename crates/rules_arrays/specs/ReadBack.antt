@@ -7,13 +7,13 @@ use mathlib.Core.Option.{Option, none, some}
 use lib.ListN.{length}
 use lib.IntN.{ℤ}
 use lib.Dec.{eqb}
 use Rattle.rules.specs.Notation.{isZero, tabulate, at}
 use Rattle.rules.specs.declared.Sizes.{Sizes}
 use Rattle.rules.specs.Problem.{Problem}
 use Rattle.rules.specs.Sheet.{sheetOf, problem}
 use Rattle.rules.specs.Encoder.{picked}
 use Rattle.rules.specs.Refusals.{Numbered, layoutRefusal}
-use Rattle.rules.specs.Arrays.{Arrays}
+use Rattle.rules_arrays.specs.Arrays.{Arrays}
 
 -- The figures of a problem are those of the arrays.
 pub record SameFigures (P : Problem) (A : Arrays) : Type 0 where

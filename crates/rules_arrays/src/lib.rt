@@ -1,0 +1,1 @@
+// Definitions for writing a sheet from plain arrays: this crate has no code, its content is specs/.
