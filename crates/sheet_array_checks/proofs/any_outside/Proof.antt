@@ -61,11 +61,11 @@ any-outside-spec =
     Inv-loop
     μ-loop
     loop-holds
-    (search needs)
-    (search needs)
+    (λ c. record { fits = omega arith })
+    (λ c. omega arith)
     (search needs)
     returns
-    (search needs)
-    (search needs)
+    (λ c. record { fits = omega arith })
+    (λ c. omega arith)
     loop-again
     returns-2)

@@ -81,13 +81,13 @@ check-amounts-spec =
     Inv-loop
     μ-loop
     loop-holds
-    (search needs)
-    (search needs)
-    (search needs)
+    (λ c. record { fits = omega arith })
+    (λ c. omega arith)
+    (λ c. record { fits = omega arith })
     most-inside
     (search needs)
     returns
-    (search needs)
-    (search needs)
+    (λ c. record { fits = omega arith })
+    (λ c. omega arith)
     loop-again
     returns-2)

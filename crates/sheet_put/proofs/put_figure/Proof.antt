@@ -82,15 +82,15 @@ put-figure-spec =
     tie.close
     (tie.spec
     returns
-    (search needs)
-    (search needs)
+    (λ c. record { fits = omega arith })
+    (λ c. record { fits = omega arith })
     put-unsigned-requires
-    (search needs)
-    (search needs)
-    (search needs)
-    (search needs)
+    (λ c. record { fits = omega arith })
+    (λ c. record { fits = omega arith })
+    (λ c. record { fits = omega arith })
+    (λ c. record { fits = omega arith })
     cast-put-signed
     put-signed-requires
-    (search needs)
+    (λ c. record { fits = omega arith })
     (search needs)
     returns-2)

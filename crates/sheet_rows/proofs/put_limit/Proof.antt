@@ -107,18 +107,18 @@ pub put-limit-spec : {M : Type 1} → statement M
 put-limit-spec =
     tie.close
     (tie.spec
-    (search needs)
-    (search needs)
+    (λ c. record { fits = omega arith })
+    (λ c. record { fits = omega arith })
     (search needs)
     put-run-requires
-    (search needs)
-    (search needs)
-    (search needs)
+    (λ c. record { fits = omega arith })
+    (λ c. record { fits = omega arith })
+    (λ c. omega arith)
     put-figure-requires
-    (search needs)
-    (search needs)
-    (search needs)
-    (search needs)
+    (λ c. record { fits = omega arith })
+    (λ c. record { fits = omega arith })
+    (λ c. record { fits = omega arith })
+    (λ c. omega arith)
     put-figure-requires-2
     (search needs)
     returns)

@@ -82,8 +82,8 @@ put-limits-spec =
     μ-loop
     loop-holds
     put-limit-requires
-    (search needs)
-    (search needs)
+    (λ c. record { fits = omega arith })
+    (λ c. omega arith)
     loop-again
     same-length
     returns)
