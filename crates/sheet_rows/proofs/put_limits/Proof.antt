@@ -7,7 +7,6 @@ use native.Mathlib.Numerals.{add-one}
 use native.Mathlib.Omega.{arith}
 use lib.IntN.{ℤ}
 use lib.ListN.{length}
-use borrow.Author.Needs.{needs}
 use Rattle.sheet_arrays.specs.Listed.{limitEntries, limitsEntries, limits-grow}
 use Rattle.sheet_put.specs.Put.{Put, EntriesRoom, put-none, room-less, room-next, put-more, length-put}
 use Rattle.sheet_rows.specs.Ready.{LimitReady, LimitsReady}

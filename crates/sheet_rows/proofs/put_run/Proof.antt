@@ -9,7 +9,6 @@ use lib.ListN.{length}
 use mir.Syntax.{w32}
 use mir.Val.{toZ, ofZ}
 use mir.Facts.{toZ-ofZ}
-use borrow.Author.Needs.{needs}
 use Rattle.rules.specs.Notation.{at}
 use Rattle.sheet_arrays.specs.Runs.{entry, run, run-grows}
 use Rattle.sheet_put.specs.Put.{Put, EntriesRoom, put-none, room-less, room-next, put-more, length-put}
