@@ -10,9 +10,9 @@ use Rattle.rules.specs.Notation.{anyBelow, maxℤ, sumTo, tabulate, at}
 use Rattle.rules.specs.Problem.{Problem, costOf, loadOf}
 use Rattle.rules.specs.Step.{State, reducedCost, amount, residual, dualValue, lookAt, greatestCost}
 use Rattle.rules.specs.Step.{cheapestCost, infeasible, moved, next, diverged}
-use Rattle.rules.specs.Run.{startingState, stateAfter, lookAfter, lowAfter, gapOf, planAfter}
+use Rattle.rules.specs.Run.{startingState, stateAfter, lookAfter, closingValue, lowAfter, gapOf, planAfter}
 use Rattle.rules.specs.Refusals.{refuse, _otherwise_}
-use Rattle.rules.specs.Answers.{refusalAt, stepRefusal}
+use Rattle.rules.specs.Answers.{lookRefusal, refusalAt, stepRefusal, runRefusal}
 use Rattle.proof_laws.specs.FirstPlace.{first-cong}
 
 -- the same sizes, and the same figures at every material and limit of Q
@@ -137,29 +137,41 @@ module _ {P Q : Problem} (same : Agree P Q) where
   unfolding lookAfter
   looks-at t = looks (at (stateAfter P t .multipliers)) ∙ (λ k. lookAt Q (at (states t k .multipliers)))
 
-  pub same-refusal : (k : ℕ) → stepRefusal P k ≡ stepRefusal Q k
-  unfolding stepRefusal refusalAt infeasible diverged
-  same-refusal k =
+  look-refusals : (t : ℕ) → lookRefusal P t ≡ lookRefusal Q t
+  unfolding lookRefusal infeasible
+  look-refusals t = λ i. refuse 9 t (ltZ (pos (same .scale i) *ℤ greatest-costs i) (looks-at t i .dualValue))
+
+  step-refusals : (k : ℕ) → stepRefusal P k ≡ stepRefusal Q k
+  unfolding stepRefusal refusalAt diverged
+  step-refusals k =
       first-cong k _ _
       (λ t _ i.
-      refuse 9 t (ltZ (pos (same .scale i) *ℤ greatest-costs i) (looks-at t i .dualValue))
+      look-refusals t i
       otherwise refuse 10 t
       (anyBelow (same .limits i) (λ j. ltZ (pos 1073741824) (at (states (suc t) i .multipliers) j))))
 
+  pub same-refusal : (k : ℕ) → runRefusal P k ≡ runRefusal Q k
+  unfolding runRefusal
+  same-refusal k = λ i. step-refusals k i otherwise look-refusals k i
+
+  lows : (k : ℕ) → lowAfter P k ≡ lowAfter Q k
+  unfolding lowAfter closingValue
+  lows k = λ i. maxℤ (states k i .lowerBound) (looks-at k i .dualValue)
+
   gaps : (k : ℕ)
       → gapOf P k (lowAfter P k) (at (stateAfter P k .sums)) ≡ gapOf Q k (lowAfter Q k) (at (stateAfter Q k .sums))
-  unfolding gapOf lowAfter
+  unfolding gapOf
   gaps k =
       let cost = costs (at (stateAfter P k .sums)) (at (stateAfter Q k .sums)) (λ j _ i. at (states k i .sums) j) in
-      λ i. pos (same .scale i) *ℤ cost i -ℤ pos k *ℤ states k i .lowerBound
+      λ i. pos (same .scale i) *ℤ cost i -ℤ pos k *ℤ lows k i
 
   pub same-plan : (k : ℕ) → planAfter P k ≡ planAfter Q k
-  unfolding planAfter lowAfter
+  unfolding planAfter
   same-plan k = λ i. record {
     materials = same .materials i;
     limits = same .limits i;
     steps = k;
-    low = states k i .lowerBound;
+    low = lows k i;
     gap = gaps k i;
     sums = states k i .sums;
     multipliers = states k i .multipliers;

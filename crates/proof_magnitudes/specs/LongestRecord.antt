@@ -11,8 +11,8 @@ use Rattle.rules.specs.Sheet.{sheetOf, problem}
 use Rattle.rules.specs.Record.{recordLength, longestRecord}
 use Rattle.rules.specs.Run.{Plan}
 use Rattle.rules.specs.Refusals.{Numbered, layoutRefusal}
-use Rattle.rules.specs.Answers.{Outcome, plan, refused, refusalAt, stepRefusal, planRefusal, refusal, outcomeOf}
-use Rattle.rules.specs.Answers.{planOf, answerTo, answer}
+use Rattle.rules.specs.Answers.{Outcome, plan, refused, lookRefusal, refusalAt, stepRefusal, runRefusal, planRefusal}
+use Rattle.rules.specs.Answers.{refusal, outcomeOf, planOf, answerTo, answer}
 use Rattle.proof_laws.specs.Given.{Given, otherwise-given, first-given, refuse-given, layout-given}
 use Rattle.proof_magnitudes.specs.Accepted.{Accepted, accepted}
 
@@ -25,13 +25,18 @@ record-short {P} a = omega arith
 not-above : {wanted room : ℕ} → wanted ≤ room → T (ltb room wanted) → ⊥
 not-above {wanted} {room} short long = let above : room < wanted = ltb-yes long in omega arith
 
--- ---- the chain of refusals: the steps, and then the whole
-steps-not-8 : (P : Problem) (k : ℕ) → Given 8 ⊥ (stepRefusal P k)
-unfolding stepRefusal refusalAt
-steps-not-8 P k =
-    first-given _ _ k _ (λ t.
-    otherwise-given _ _ _ _ (refuse-given _ _ 9 t _ (λ _ e. omega arith))
-    (λ _. refuse-given _ _ 10 t _ (λ _ e. omega arith)))
+-- ---- the chain of refusals: a look, the run, and then the whole
+look-not-8 : (P : Problem) (t : ℕ) → Given 8 ⊥ (lookRefusal P t)
+unfolding lookRefusal
+look-not-8 P t = refuse-given _ _ 9 t _ (λ _ e. omega arith)
+
+run-not-8 : (P : Problem) (k : ℕ) → Given 8 ⊥ (runRefusal P k)
+unfolding runRefusal stepRefusal refusalAt
+run-not-8 P k =
+    otherwise-given _ _ _ _
+    (first-given _ _ k _ (λ t.
+    otherwise-given _ _ _ _ (look-not-8 P t) (λ _. refuse-given _ _ 10 t _ (λ _ e. omega arith))))
+    (λ _. look-not-8 P k)
 
 chain-not-8 : (s : List ℕ) → Given 8 ⊥ (refusal (sheetOf s) (layoutRefusal s) longestRecord)
 unfolding refusal planRefusal
@@ -39,7 +44,7 @@ chain-not-8 s =
     otherwise-given _ _ _ _ (layout-given _ _ (omega arith) s)
     (λ h.
     otherwise-given _ _ _ _ (refuse-given _ _ 8 _ _ (λ long _. not-above (record-short (accepted s h)) long))
-    (λ _. steps-not-8 (problem (sheetOf s)) (sheetOf s .sizes .steps)))
+    (λ _. run-not-8 (problem (sheetOf s)) (sheetOf s .sizes .steps)))
 
 -- ---- the answer: a plan, or a refusal that is not 8
 abbrev pub Not8 : Outcome → Type 0

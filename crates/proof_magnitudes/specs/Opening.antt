@@ -1,5 +1,5 @@
--- Low before any step is D times the cheapest cost (T5.3). Where multipliers begin at 0, that is the dual value of step
--- 0: so low is then the largest dual value.
+-- The lower bound before any step is D times the cheapest cost (T5.3). Where multipliers begin at 0, that is the dual
+-- value of step 0: so low is then the largest dual value.
 use mathlib.Core.Path.{_≡_, refl, sym, ap, _∙_}
 use mathlib.Core.Bool.{true, cond}
 use Prim.Native.Nat.{ℕ, zero, suc, _*_, _<_, _≤_, zero-le}
@@ -13,7 +13,7 @@ use Rattle.proof_integer.specs.Sum.{sumTo-none, sumTo-cong}
 use Rattle.rules.specs.Notation.{sumTo}
 use Rattle.rules.specs.Problem.{Problem, costOf}
 use Rattle.rules.specs.Step.{reducedCost, amount, dualValue, lookAt, cheapestCost, next}
-use Rattle.rules.specs.Run.{startingState, stateAfter, lookAfter, lowAfter}
+use Rattle.rules.specs.Run.{startingState, stateAfter, lookAfter}
 use Rattle.proof_magnitudes.specs.CostRange.{cheapestEnd}
 use Rattle.proof_magnitudes.specs.Steps.{entering, amounts, entering-first, amounts-are}
 
@@ -62,7 +62,7 @@ module _ (P : Problem) (some : 1 ≤ P .scale)
       (sumTo-cong (P .materials) _ _ (λ j l.
       ap (λ x. P .cost j *ℤ x) (amounts-are P 0 j l ∙ amount-at-zero P (entering P 0) entering-zero some j)))
 
-  -- so that it is low after step 0
-  pub first-low : lowAfter P 1 ≡ lookAfter P 0 .dualValue
-  unfolding lowAfter stateAfter startingState next lookAfter
+  -- so that it is the lower bound after step 0
+  pub first-low : stateAfter P 1 .lowerBound ≡ lookAfter P 0 .dualValue
+  unfolding stateAfter startingState next lookAfter
   first-low = max-cases _ _ (λ low. low ≡ lookAfter P 0 .dualValue) (λ _. refl) (λ _. sym first-value)

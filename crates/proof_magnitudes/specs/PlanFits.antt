@@ -11,10 +11,10 @@ use Rattle.proof_integer.specs.Range.{bnd-sfits}
 use Rattle.rules.specs.Notation.{at}
 use Rattle.rules.specs.Problem.{Problem}
 use Rattle.rules.specs.Run.{Plan, planAfter}
-use Rattle.rules.specs.Answers.{stepRefusal}
+use Rattle.rules.specs.Answers.{runRefusal}
 use Rattle.proof_laws.specs.Lengths.{multipliers-length, sums-length, totals-length}
 use Rattle.proof_magnitudes.specs.Accepted.{Accepted}
-use Rattle.proof_magnitudes.specs.RunMagnitudes.{run-magnitudes}
+use Rattle.proof_magnitudes.specs.RunMagnitudes.{plan-magnitudes}
 
 -- the figures are as many as the plan's sizes say, and each fits its bytes
 pub record PlanFits (p : Plan) : Type 0 where
@@ -30,11 +30,11 @@ pub record PlanFits (p : Plan) : Type 0 where
   pub multiplier : (i : ℕ) → i < p .limits → SFits w32 (at (p .multipliers) i)
   pub total : (i : ℕ) → i < p .limits → SFits w64 (at (p .residualTotals) i)
 
--- the plan of an accepted problem, none of whose steps is refused, fits its record
-pub plan-fits : {P : Problem} {k : ℕ} → Accepted P k → stepRefusal P k ≡ none → PlanFits (planAfter P k)
+-- the plan of an accepted problem whose run is not refused fits its record
+pub plan-fits : {P : Problem} {k : ℕ} → Accepted P k → runRefusal P k ≡ none → PlanFits (planAfter P k)
 unfolding planAfter
 plan-fits {P} {k} a going =
-    let large = run-magnitudes a k (le-refl k) going .state in
+    let large = plan-magnitudes a k (le-refl k) going in
     record {
       materials = omega arith;
       limits = omega arith;
@@ -44,7 +44,7 @@ plan-fits {P} {k} a going =
       sums-length = sums-length P k;
       multipliers-length = multipliers-length P k;
       totals-length = totals-length P k;
-      sum = λ j l. bnd-sfits tt (large .sum j l .magnitude);
-      multiplier = λ i l. bnd-sfits tt (large .multiplier i l .magnitude);
-      total = λ i l. large .residual-total i l .fits;
+      sum = λ j l. bnd-sfits tt (large .state .sum j l .magnitude);
+      multiplier = λ i l. bnd-sfits tt (large .state .multiplier i l .magnitude);
+      total = λ i l. large .state .residual-total i l .fits;
     }

@@ -1,6 +1,6 @@
 -- The run of `rules` by its formulas: what the look at the multipliers after t steps gives, where they go, and what the
 -- totals add up.
-use mathlib.Core.Path.{_≡_, _∙_}
+use mathlib.Core.Path.{_≡_, refl, _∙_}
 use Prim.Native.Nat.{ℕ, zero, suc, _<_}
 use lib.IntN.{ℤ, pos, _+ℤ_}
 use lib.Signed.{_≤ℤ_}
@@ -9,7 +9,7 @@ use Rattle.proof_integer.specs.Vector.{at-tabulate}
 use Rattle.rules.specs.Notation.{sumTo, at}
 use Rattle.rules.specs.Problem.{Problem}
 use Rattle.rules.specs.Step.{reducedCost, amount, residual, lookAt, moved, next}
-use Rattle.rules.specs.Run.{startingState, stateAfter, lookAfter}
+use Rattle.rules.specs.Run.{startingState, stateAfter, lookAfter, closingValue, lowAfter}
 use Rattle.proof_magnitudes.specs.Minimal.{AllMinimal, rule-minimal}
 
 module _ (P : Problem) where
@@ -63,6 +63,11 @@ module _ (P : Problem) where
   totals-are (suc k) i l =
       at-tabulate (P .limits) (λ i. at (stateAfter P k .residualTotals) i +ℤ residuals k i) i l
       ∙ rw (totals-are k i l, residuals-are k i l)
+
+  -- ---- low after c steps, which counts the look at step c, is the lower bound that step c hands on
+  pub low-handed-on : (c : ℕ) → lowAfter P c ≡ stateAfter P (suc c) .lowerBound
+  unfolding lowAfter closingValue stateAfter next lookAfter
+  low-handed-on c = refl
 
 -- no starting multiplier is negative
 abbrev pub StartSign : Problem → Type 0

@@ -11,9 +11,10 @@ use Rattle.rules.specs.Step.{reducedCost, dualValue}
 use Rattle.rules.specs.Run.{lookAfter, planAfter}
 use Rattle.rules.specs.Margins.{square, PlanMargins, Margins}
 use Rattle.rules.specs.Rows.{Holds}
-use Rattle.rules.specs.Marked.{C1, C2, C3}
-use Rattle.rules.specs.Started.{S2, S7}
-use Rattle.rules.specs.Points.{fromSheet, P₁, P₂, S₄, P₄, P₆, wholes, wholes-feasible, halves, halves-feasible}
+use Rattle.rules.specs.Marked.{C1, C3, C4}
+use Rattle.rules.specs.Started.{S2}
+use Rattle.rules.specs.Closing.{L4, L5, L6}
+use Rattle.rules.specs.Points.{fromSheet, P₁, P₂, P₄, P₆, wholes, wholes-feasible, halves, halves-feasible}
 use Rattle.rules.specs.Points.{residual-left, residual-right, squares-left, squares-right}
 use Rattle.proof_magnitudes.specs.Minimal.{most, AllMinimal, WithinBounds}
 use Rattle.proof_magnitudes.specs.Steps.{entering}
@@ -36,28 +37,28 @@ pub at-halves : (pos 208 ≤ℤ pos 216) × (neg 64 ≤ℤ neg 32)
 unfolding Holds
 at-halves = (margins-C1 .lower (pos 2) halves halves-feasible, margins-C1 .excess (pos 2) halves halves-feasible)
 
--- ---- C2, with gap 0: the residual claim is 12 ≤ 12, and the squares claim 144 ≤ 144
-pub claims-C2 : (residual-left P₂ 1 ≤ℤ residual-right P₂ 1) × (squares-left P₂ 1 (pos 0) ≤ℤ squares-right P₂ 1)
+-- ---- L4, with gap 0: the residual claim is 24 ≤ 24, and the squares claim 576 ≤ 576
+pub claims-L4 : (residual-left P₂ 1 ≤ℤ residual-right P₂ 1) × (squares-left P₂ 1 (pos 0) ≤ℤ squares-right P₂ 1)
 unfolding Holds Margins
-claims-C2 =
-    let plan : PlanMargins P₂ 1 (pos 0) (pos 0) = margins (C2 .sheet) (C2 .room) in
+claims-L4 =
+    let plan : PlanMargins P₂ 1 (pos 0) (pos 0) = margins (L4 .sheet) (L4 .room) in
     (plan .residualTotals 0 (lit< tt), plan .squares)
 
--- ---- the sheet with p = 4 and gap 12: 8 ≤ 8, and 160 ≤ 160
-pub claims-S₄ : (residual-left P₄ 2 ≤ℤ residual-right P₄ 2) × (squares-left P₄ 2 (pos 12) ≤ℤ squares-right P₄ 2)
+-- ---- L5, with p = 4 and gap 36: 0 ≤ 0, and 288 ≤ 288
+pub claims-L5 : (residual-left P₄ 2 ≤ℤ residual-right P₄ 2) × (squares-left P₄ 2 (pos 36) ≤ℤ squares-right P₄ 2)
 unfolding Holds Margins
-claims-S₄ =
-    let plan : PlanMargins P₄ 2 (pos 0) (pos 12) = margins S₄ 38 in
+claims-L5 =
+    let plan : PlanMargins P₄ 2 (pos 0) (pos 36) = margins (L5 .sheet) (L5 .room) in
     (plan .residualTotals 0 (lit< tt), plan .squares)
 
--- ---- S7, with a start and gap 12: −4 ≤ −4, and 160 ≤ 160
-pub claims-S7 : (residual-left P₆ 1 ≤ℤ residual-right P₆ 1) × (squares-left P₆ 1 (pos 12) ≤ℤ squares-right P₆ 1)
+-- ---- L6, with a start and gap 4: −2 ≤ −2, and 20 ≤ 20
+pub claims-L6 : (residual-left P₆ 1 ≤ℤ residual-right P₆ 1) × (squares-left P₆ 1 (pos 4) ≤ℤ squares-right P₆ 1)
 unfolding Holds Margins
-claims-S7 =
-    let plan : PlanMargins P₆ 1 (pos 0) (pos 12) = margins (S7 .sheet) (S7 .room) in
+claims-L6 =
+    let plan : PlanMargins P₆ 1 (pos 8) (pos 4) = margins (L6 .sheet) (L6 .room) in
     (plan .residualTotals 0 (lit< tt), plan .squares)
 
--- ---- C3 and, at step 0, S2, refused with 9: they have no feasible point
+-- ---- C3, at step 0 S2, and at the closing look C4, refused with 9: they have no feasible point
 pub infeasible-C3 : NoneFeasible (fromSheet (C3 .sheet))
 unfolding Holds Margins
 infeasible-C3 = margins (C3 .sheet) (C3 .room) refl
@@ -66,8 +67,12 @@ pub infeasible-S2 : NoneFeasible (fromSheet (S2 .sheet))
 unfolding Holds Margins
 infeasible-S2 = margins (S2 .sheet) (S2 .room) refl
 
--- ---- near claims that are false, each made by a must-fail edit: F1 to F3 at plain numbers, and the two sums at C2 and
--- at S7
+pub infeasible-C4 : NoneFeasible (fromSheet (C4 .sheet))
+unfolding Holds Margins
+infeasible-C4 = margins (C4 .sheet) (C4 .room) refl
+
+-- ---- near claims that are false, each made by a must-fail edit: F1 to F3 at plain numbers, and the two sums at L4 and
+-- at L6
 -- F1 by the other sign of the reduced cost, at one material of cost 1, from 0 to 1, with no limits
 abbrev one-material : Problem
 one-material = record {
@@ -104,7 +109,7 @@ pub size-cut-at-one : ((z : ℤ) → square (maxℤ (pos 1) z) ≤ℤ square z) 
 unfolding Holds
 size-cut-at-one claim = claim (pos 0) .le
 
--- at C2, the residual claim for the starting multiplier, and the squares claim with the residuals of no step
+-- at L4, the residual claim for the starting multiplier, and the squares claim with the residuals of no step
 pub residuals-below-start : residual-left P₂ 1 ≤ℤ entering P₂ 0 0 → ⊥
 unfolding Holds
 residuals-below-start claim = claim .le
@@ -115,15 +120,15 @@ pub squares-of-one-step-less :
 unfolding Holds
 squares-of-one-step-less claim = claim .le
 
--- at S7, the residual claim for twice the start, −4 ≤ 8 − 24, and the squares claim without the starting squares,
--- 160 ≤ 16
+-- at L6, the residual claim for twice the start, −2 ≤ 2 − 8, and the squares claim without the starting squares,
+-- 20 ≤ 4
 pub residuals-with-start-twice :
     residual-left P₆ 1 ≤ℤ (at (planAfter P₆ 1 .multipliers) 0 -ℤ pos 2 *ℤ P₆ .startingMultiplier 0) → ⊥
 unfolding Holds
 residuals-with-start-twice claim = claim .le
 
 pub squares-without-start :
-    squares-left P₆ 1 (pos 12)
+    squares-left P₆ 1 (pos 4)
     ≤ℤ (square (pos (P₆ .numerator)) *ℤ sumTo 1 (λ t. norm² P₆ (at (lookAfter P₆ t .residuals)))) → ⊥
 unfolding Holds
 squares-without-start claim = claim .le

@@ -23,21 +23,29 @@ unfoldable pub outcome : Answer → Outcome
 outcome (Answer.Plan low gap) = plan low gap
 outcome (Answer.Refused r) = refused (numbered r)
 
+-- T7.4, refusal 9 of the look at the multipliers after t steps: that of step t, and that which closes a run of t
+-- steps. The place is t.
+unfoldable pub lookRefusal : Problem → ℕ → Option Numbered
+lookRefusal P t = refuse 9 t (infeasible P (lookAfter P t))
+
 -- T7.3, refusals 9 and 10 at step t, 9 before 10: of what the step works out, and of the multipliers after it. The
 -- place is the step's number.
 unfoldable pub refusalAt : Problem → ℕ → Option Numbered
-refusalAt P t =
-    refuse 9 t (infeasible P (lookAfter P t)) otherwise refuse 10 t (diverged P (stateAfter P (suc t) .multipliers))
+refusalAt P t = lookRefusal P t otherwise refuse 10 t (diverged P (stateAfter P (suc t) .multipliers))
 
 -- T5.7, the refusal of the first of k steps that is refused
 unfoldable pub stepRefusal : Problem → ℕ → Option Numbered
 stepRefusal P k = firstBelow k (refusalAt P)
 
--- T7.4, refusal 8, of a record buffer of `room` bytes, and then those of k steps
+-- T7.3, the refusal of a run of c steps: that of the steps, and then that of the closing look
+unfoldable pub runRefusal : Problem → ℕ → Option Numbered
+runRefusal P c = stepRefusal P c otherwise lookRefusal P c
+
+-- T7.4, refusal 8, of a record buffer of `room` bytes, and then those of a run of k steps
 unfoldable pub planRefusal : Problem → ℕ → ℕ → Option Numbered
 planRefusal P k room =
     let wanted = recordLength (P .materials) (P .limits) in
-    refuse 8 wanted (ltb room wanted) otherwise stepRefusal P k
+    refuse 8 wanted (ltb room wanted) otherwise runRefusal P k
 
 -- a refusal where there is one, else the plan's figures
 unfoldable pub outcomeOf : Plan → Option Numbered → Outcome
@@ -50,7 +58,7 @@ module _ (S : Sheet) where
   unfoldable pub planOf : Plan
   planOf = planAfter (problem S) (S .sizes .steps)
 
-  -- its one refusal, if any: that of the layout, then 8, then those of the steps
+  -- its one refusal, if any: that of the layout, then 8, then those of the run
   unfoldable pub refusal : Option Numbered → ℕ → Option Numbered
   refusal layout room = layout otherwise planRefusal (problem S) (S .sizes .steps) room
 

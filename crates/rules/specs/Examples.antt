@@ -140,14 +140,11 @@ ends =
     refusal-row (encode 1 1 1 1 1 (194 ∶ neg 1 ∷ [])) 42 Value 0 "refused 6 0\n" ∷
     -- a multiplier of 325·3,303,821 = 2^30 + 1, at the second limit
     refusal-row (encode 1 2 325 1 1 (257 ∶ neg 3303821 ∷ [])) 50 Diverged 0 "refused 10 0\n" ∷
-    -- every figure at an end of its range: cost −10,000, least 1, most 1,000, a 1,000, b −32,000,000
-    record {
-      sheet = encode 1 1 1 1 1 (0 ∶ neg 10000 ∷ 64 ∶ pos 1 ∷ 128 ∶ pos 1000 ∷ 192 ∶ pos 1000 ∷ 193 ∶ neg 32000000 ∷ []);
-      room = 38;
-      answer = Plan (neg 10000000) (pos 0);
-      bytes = hex "0100 0100 0100 806967ffffffffff 0000000000000000 e8030000 408af701 408af70100000000";
-      listing = text "steps 1\nmat 0 1000\nlim 0 33000000 33000000\nlow -10000000\ngap 0\n";
-    } ∷
+    -- every figure at an end of its range: cost −10,000, least 1, most 1,000, a 1,000, b −32,000,000. Step 0 has
+    -- x = 1,000 and g = 33,000,000, and the closing look x = 1, g = 32,001,000 and V far above −10,000·1
+    refusal-row
+    (encode 1 1 1 1 1 (0 ∶ neg 10000 ∷ 64 ∶ pos 1 ∷ 128 ∶ pos 1000 ∷ 192 ∶ pos 1000 ∷ 193 ∶ neg 32000000 ∷ []))
+    38 Infeasible 1 "refused 9 1\n" ∷
     -- and at the other: cost 10,000, least 1,000, a −1,000, b 32,000,000; p and D 1,024
     record {
       sheet =
@@ -254,7 +251,8 @@ steps =
     -- step 0: M = 0, 0; r = 3, 6; x = 0, 0; g = 3, 1; V = 0.
     -- step 1: M = 6, 2; r = 3−6+2 = −1, 6−2 = 4; x = 4, 0; g = −1, 5; V = 3·4 + 6·(−1) + 2·5 = 16.
     -- step 2: M = 4, 12; r = 3−4+12 = 11, 6−12 = −6; x = 0, 5; g = 3, −4; V = 3·10 + 4·3 + 12·(−4) = −6.
-    -- Closing M = 10, 4; S = 4, 5; G = 5, 2; low 16; gap 3·(4+10) − 3·16 = −6.
+    -- closing look: M = 10, 4; r = 3−10+4 = −3, 6−4 = 2; x = 4, 0; g = −1, 5; V = 3·4 + 10·(−1) + 4·5 = 22.
+    -- S = 4, 5; G = 5, 2; low 22; gap 3·(4+10) − 3·22 = −24.
     -- Were the limits moved one after the other (T4.7), limit 1 would in step 0 see limit 0 at 6: r_0 = −3, x_0 = 4,
     -- g_1 = 5 and M_1 = 10, not 2.
     record {
@@ -263,42 +261,46 @@ steps =
           (0 ∶ pos 1 ∷ 1 ∶ pos 2 ∷ 128 ∶ pos 4 ∷ 129 ∶ pos 5 ∷ 192 ∶ neg 1 ∷ 194 ∶ neg 3
           ∷ 256 ∶ pos 1 ∷ 257 ∶ neg 1 ∷ 258 ∶ neg 1 ∷ []);
       room = 54;
-      answer = Plan (pos 16) (neg 6);
+      answer = Plan (pos 22) (neg 24);
       bytes =
-          hex "0200 0200 0300 1000000000000000 faffffffffffffff 04000000 05000000"
+          hex "0200 0200 0300 1600000000000000 e8ffffffffffffff 04000000 05000000"
           ++ hex "0a000000 04000000 0500000000000000 0200000000000000";
-      listing = text "steps 3\nmat 0 4\nmat 1 5\nlim 0 10 5\nlim 1 4 2\nlow 16\ngap -6\n";
+      listing = text "steps 3\nmat 0 4\nmat 1 5\nlim 0 10 5\nlim 1 4 2\nlow 22\ngap -24\n";
     } ∷
     -- More limits than materials, D = 10, k = 2: cost 1, most 10, x ≤ 5,000 and −2x ≤ −15. By hand:
     -- step 0: M = 0, 0; r = 10; x = 0; g = −5,000, 15; V = 0.
     -- step 1: M = 0, 15; r = 10−30 = −20; x = 10; g = −4,990, −5; V = 10·10 + 15·(−5) = 25.
-    -- Closing M = 0, 10; S = 10; G = −9,990, 10; low 25; gap 10·10 − 2·25 = 50.
+    -- closing look: M = 0, 10; r = 10−20 = −10; x = 10; g = −4,990, −5; V = 10·10 + 10·(−5) = 50.
+    -- S = 10; G = −9,990, 10; low 50; gap 10·10 − 2·50 = 0.
     record {
       sheet =
           encode 1 2 1 10 2
           (0 ∶ pos 1 ∷ 128 ∶ pos 10 ∷ 192 ∶ pos 1 ∷ 193 ∶ pos 5000 ∷ 256 ∶ neg 2 ∷ 257 ∶ neg 15 ∷ []);
       room = 50;
-      answer = Plan (pos 25) (pos 50);
+      answer = Plan (pos 50) (pos 0);
       bytes =
-          hex "0100 0200 0200 1900000000000000 3200000000000000 0a000000 00000000 0a000000"
+          hex "0100 0200 0200 3200000000000000 0000000000000000 0a000000 00000000 0a000000"
           ++ hex "fad8ffffffffffff 0a00000000000000";
-      listing = text "steps 2\nmat 0 10\nlim 0 0 -9990\nlim 1 10 10\nlow 25\ngap 50\n";
+      listing = text "steps 2\nmat 0 10\nlim 0 0 -9990\nlim 1 10 10\nlow 50\ngap 0\n";
     } ∷
     -- A negative cost: the greatest cost is −2·1, with the least amount, and not −2·3. Cost −2, from 1 to 3,
     -- x ≤ 2, k = 2. By hand:
     -- step 0: M = 0; r = −2; x = 3; g = 1; V = −6.
     -- step 1: M = 1; r = −1; x = 3; g = 1; V = −6 + 1 = −5, which −2 allows.
+    -- closing look: M = 2; r = 0, a tie; x = 1; g = −1; V = −2 − 2 = −4, which −2 allows too.
+    -- S = 6; G = 2; low −4; gap −12 − 2·(−4) = −4.
     record {
       sheet = encode 1 1 1 1 2 (0 ∶ neg 2 ∷ 64 ∶ pos 1 ∷ 128 ∶ pos 3 ∷ 192 ∶ pos 1 ∷ 193 ∶ pos 2 ∷ []);
       room = 38;
-      answer = Plan (neg 5) (neg 2);
-      bytes = hex "0100 0100 0200 fbffffffffffffff feffffffffffffff 06000000 02000000 0200000000000000";
-      listing = text "steps 2\nmat 0 6\nlim 0 2 2\nlow -5\ngap -2\n";
+      answer = Plan (neg 4) (neg 4);
+      bytes = hex "0100 0100 0200 fcffffffffffffff fcffffffffffffff 06000000 02000000 0200000000000000";
+      listing = text "steps 2\nmat 0 6\nlim 0 2 2\nlow -4\ngap -4\n";
     } ∷
     -- Two limits with starts of their own, 4 and 1. D = 2: cost 3, most 5, −x ≤ −2 and −2x ≤ −7. By hand:
     -- step 0: M = 4, 1; r = 6 − 4 − 2 = 0, a tie; x = 0; g = 2, 7; V = 4·2 + 1·7 = 15.
-    -- Closing M = 6, 8; S = 0; G = 2, 7; low 15; gap 0 − 15 = −15. With the starts exchanged r would be 6 − 1 − 8 = −3,
-    -- and with 4 for both 6 − 4 − 8 = −6, so that x would be 5.
+    -- closing look: M = 6, 8; r = 6 − 6 − 16 = −16; x = 5; g = −3, −3; V = 2·15 − 6·3 − 8·3 = −12.
+    -- S = 0; G = 2, 7; low 15; gap 0 − 15 = −15. With the starts exchanged r would in step 0 be 6 − 1 − 8 = −3, and with
+    -- 4 for both 6 − 4 − 8 = −6, so that x would be 5.
     record {
       sheet =
           encode 1 2 1 2 1

@@ -7,7 +7,7 @@
 --   Ranges     the table of ranges, and the ranges of the sizes
 --   Encoder    from sizes and a table of figures to the bytes of a sheet
 --   Step       one step of the method
---   Run        k steps, and the plan that they give
+--   Run        k steps, the look that closes them, and the plan that they give
 --   Record     the bytes of a plan, and the plan that such bytes hold
 --   Refusals   the numbers of the refusals, and refusals 1 to 7
 --   Answers    the answer to a sheet, and the lent buffer afterwards
@@ -20,6 +20,7 @@
 --   Rows       how a table of sheets is written
 --   Marked     C1 to C10
 --   Started    S1 to S9: sheets with starts
+--   Closing    L1 to L6: the closing look
 --   Examples   the examples of the refusals, their order, the ends of the ranges, and steps worked by hand
 --   Points     feasible points and points just outside; what T9.3 to T9.7 say in numbers; claims refuted
 -- Signs: `pos n` and `negsuc n` are the integers n and −(n + 1); `+ℤ -ℤ *ℤ` reckon with integers, and `≤ℤ <ℤ` compare
@@ -54,5 +55,6 @@ pub mod Version
 pub mod Rows
 pub mod Marked
 pub mod Started
+pub mod Closing
 pub mod Examples
 pub mod Points

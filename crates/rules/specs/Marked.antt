@@ -10,7 +10,7 @@ use Rattle.rules.specs.Problem.{Problem}
 use Rattle.rules.specs.Sheet.{sized, sheetOf, problem}
 use Rattle.rules.specs.Encoder.{written}
 use Rattle.rules.specs.Step.{reducedCost, greatestCost, cheapestCost}
-use Rattle.rules.specs.Run.{stateAfter, lookAfter}
+use Rattle.rules.specs.Run.{stateAfter, lookAfter, closingValue}
 use Rattle.rules.specs.Listing.{text}
 use Rattle.rules.specs.Rows.{Entry, _∶_, entered, encode, hex, Row, Holds, AllHold, _and_}
 
@@ -27,14 +27,14 @@ C1 = record {
   listing = text "steps 4\nmat 0 10\nmat 1 20\nlim 0 12 8\nlow 104\ngap -16\n";
 }
 
--- C1 with k 1
+-- C1 with k 1: the closing value is that of step 1 of C1, 104
 abbrev pub C2 : Row
 C2 = record {
   sheet = encode 2 1 1 8 1 entries-C1;
   room = 42;
-  answer = Plan (pos 0) (pos 0);
-  bytes = hex "0200 0100 0100 0000000000000000 0000000000000000 00000000 00000000 0c000000 0c00000000000000";
-  listing = text "steps 1\nmat 0 0\nmat 1 0\nlim 0 12 12\nlow 0\ngap 0\n";
+  answer = Plan (pos 104) (neg 104);
+  bytes = hex "0200 0100 0100 6800000000000000 98ffffffffffffff 00000000 00000000 0c000000 0c00000000000000";
+  listing = text "steps 1\nmat 0 0\nmat 1 0\nlim 0 12 12\nlow 104\ngap -104\n";
 }
 
 abbrev pub entries-C3 : List Entry
@@ -50,17 +50,17 @@ C3 = record {
   listing = text "refused 9 1\n";
 }
 
--- C3 with k 1
+-- C3 with k 1: the closing look is that of step 1 of C3, and so is its refusal
 abbrev pub C4 : Row
 C4 = record {
   sheet = encode 1 1 1 1 1 entries-C3;
   room = 40;
-  answer = Plan (pos 0) (pos 0);
-  bytes = hex "0100 0100 0100 0000000000000000 0000000000000000 00000000 05000000 0500000000000000";
-  listing = text "steps 1\nmat 0 0\nlim 0 5 5\nlow 0\ngap 0\n";
+  answer = Refused (record { place = 1; cause = Infeasible });
+  bytes = [];
+  listing = text "refused 9 1\n";
 }
 
--- refused 10 at 0: the multiplier would be 1,073,742,848
+-- refused 10 at 0: the multiplier would be 1,073,742,848. The closing look, which would be refused with 9, comes after
 abbrev pub C5 : Row
 C5 = record {
   sheet = encode 1 1 1024 1 1 (193 ∶ neg 1048577 ∷ []);
@@ -70,14 +70,14 @@ C5 = record {
   listing = text "refused 10 0\n";
 }
 
--- C5 with −1,048,576: the multiplier is 1,073,741,824
+-- C5 with −1,048,576: the multiplier is 1,073,741,824, which 10 allows, and the closing value 2^30·2^20, above 0
 abbrev pub C6 : Row
 C6 = record {
   sheet = encode 1 1 1024 1 1 (193 ∶ neg 1048576 ∷ []);
   room = 38;
-  answer = Plan (pos 0) (pos 0);
-  bytes = hex "0100 0100 0100 0000000000000000 0000000000000000 00000000 00000040 0000100000000000";
-  listing = text "steps 1\nmat 0 0\nlim 0 1073741824 1048576\nlow 0\ngap 0\n";
+  answer = Refused (record { place = 1; cause = Infeasible });
+  bytes = [];
+  listing = text "refused 9 1\n";
 }
 
 -- no entries
@@ -193,6 +193,11 @@ pub values-C1 :
     map (λ t. lookAfter problem-C1 t .dualValue) (0 ∷ 1 ∷ 2 ∷ 3 ∷ []) ≡ pos 0 ∷ pos 104 ∷ pos 68 ∷ pos 0 ∷ []
 unfolding Holds
 values-C1 = refl
+
+-- the closing value, which is as large as low
+pub closing-C1 : closingValue problem-C1 4 ≡ pos 104
+unfolding Holds
+closing-C1 = refl
 
 -- the tie: at step 1 the reduced cost of material 0 is 0
 pub tie-C1 : reducedCost problem-C1 (at (stateAfter problem-C1 1 .multipliers)) 0 ≡ pos 0

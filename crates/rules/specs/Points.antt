@@ -17,8 +17,8 @@ use Rattle.rules.specs.Refusals.{Numbered}
 use Rattle.rules.specs.Answers.{plan, refused, answer}
 use Rattle.rules.specs.Margins.{square, PlanMargins, Margins}
 use Rattle.rules.specs.Rows.{_∶_, encode, Holds}
-use Rattle.rules.specs.Marked.{C1, C2, C3, C7, C9}
-use Rattle.rules.specs.Started.{S7}
+use Rattle.rules.specs.Marked.{C1, C3, C7, C9}
+use Rattle.rules.specs.Closing.{L4, L5, L6}
 
 -- the problem of a sheet's bytes
 abbrev pub fromSheet : List ℕ → Problem
@@ -211,66 +211,56 @@ pub residual-says : (P : Problem) (k : ℕ) (low gap : ℤ) → 0 < P .limits �
     → residual-left P k ≤ℤ residual-right P k
 residual-says P k low gap some claim = claim .residualTotals 0 some
 
--- ---- C2, with gap 0: 12 ≤ 12, and 0 + 12² ≤ 12²
+-- ---- L4, with p = 2 and gap 0: 2·12 ≤ 24, and 0 + 24² ≤ 2²·12²
 abbrev pub P₂ : Problem
-P₂ = fromSheet (C2 .sheet)
+P₂ = fromSheet (L4 .sheet)
 
-pub residual-sides-C2 : (residual-left P₂ 1 ≡ pos 12) × (residual-right P₂ 1 ≡ pos 12)
+pub residual-sides-P₂ : (residual-left P₂ 1 ≡ pos 24) × (residual-right P₂ 1 ≡ pos 24)
 unfolding Holds
-residual-sides-C2 = (refl, refl)
+residual-sides-P₂ = (refl, refl)
 
--- the squares claim, of every gap: 2·1·gap + 12² ≤ 1²·12²
-pub squares-say-C2 : (low gap : ℤ) → PlanMargins P₂ 1 low gap → (pos 2 *ℤ gap +ℤ pos 144) ≤ℤ pos 144
+-- the squares claim, of every gap: 2·2·gap + 24² ≤ 2²·12²
+pub squares-say-P₂ : (low gap : ℤ) → PlanMargins P₂ 1 low gap → (pos 4 *ℤ gap +ℤ pos 576) ≤ℤ pos 576
 unfolding Holds
-squares-say-C2 low gap claim = claim .squares
+squares-say-P₂ low gap claim = claim .squares
 
 -- with one less on the larger side each is refuted
-pub residual-C2 : residual-left P₂ 1 ≤ℤ (residual-right P₂ 1 -ℤ pos 1) → ⊥
+pub residual-P₂ : residual-left P₂ 1 ≤ℤ (residual-right P₂ 1 -ℤ pos 1) → ⊥
 unfolding Holds
-residual-C2 claim = claim .le
+residual-P₂ claim = claim .le
 
-pub squares-C2 : squares-left P₂ 1 (pos 0) ≤ℤ (squares-right P₂ 1 -ℤ pos 1) → ⊥
+pub squares-P₂ : squares-left P₂ 1 (pos 0) ≤ℤ (squares-right P₂ 1 -ℤ pos 1) → ⊥
 unfolding Holds
-squares-C2 claim = claim .le
+squares-P₂ claim = claim .le
 
--- ---- A sheet with p above 1 and a gap that is not 0: p = 4, D = 6, k = 2; cost 1, most 2, −2·x ≤ −3. By hand:
--- step 0: M = 0; r = 6; x = 0; g = 3; V = 0.
--- step 1: M = 12; r = 6 − 24 = −18; x = 2; g = −1; V = 12 − 12 = 0.
--- Closing M = 12 − 4 = 8; S = 2; G = 2; low 0; gap 6·2 − 2·0 = 12.
--- The residual claim is 4·2 ≤ 8, and the squares claim 2·4·12 + 8² ≤ 4²·(3² + 1²): 160 on both sides.
-abbrev pub S₄ : List ℕ
-S₄ = encode 1 1 4 6 2 (0 ∶ pos 1 ∷ 128 ∶ pos 2 ∷ 192 ∶ neg 2 ∷ 193 ∶ neg 3 ∷ [])
-
+-- ---- L5, with a gap that is not 0: p = 4 and gap 36. The residual claim is 4·0 ≤ 0, and the squares claim
+-- 2·4·36 + 0² ≤ 4²·(3² + 3²): 288 on both sides
 abbrev pub P₄ : Problem
-P₄ = fromSheet S₄
+P₄ = fromSheet (L5 .sheet)
 
-pub answered-S₄ : answer S₄ 38 ≡ plan (pos 0) (pos 12)
-unfolding Holds
-answered-S₄ = refl
-
-pub residual-sides-P₄ : (residual-left P₄ 2 ≡ pos 8) × (residual-right P₄ 2 ≡ pos 8)
+pub residual-sides-P₄ : (residual-left P₄ 2 ≡ pos 0) × (residual-right P₄ 2 ≡ pos 0)
 unfolding Holds
 residual-sides-P₄ = (refl, refl)
 
--- the squares claim, of every gap: 2·4·gap + 8² ≤ 4²·(3² + 1²)
-pub squares-say-P₄ : (low gap : ℤ) → PlanMargins P₄ 2 low gap → (pos 8 *ℤ gap +ℤ pos 64) ≤ℤ pos 160
+-- the squares claim, of every gap: 2·4·gap + 0² ≤ 4²·(3² + 3²)
+pub squares-say-P₄ : (low gap : ℤ) → PlanMargins P₄ 2 low gap → (pos 8 *ℤ gap +ℤ pos 0) ≤ℤ pos 288
 unfolding Holds
 squares-say-P₄ low gap claim = claim .squares
 
--- with one less on the larger side each is refuted, and so is a gap of 13
+-- with one less on the larger side each is refuted, and so is a gap of 37
 pub residual-P₄ : residual-left P₄ 2 ≤ℤ (residual-right P₄ 2 -ℤ pos 1) → ⊥
 unfolding Holds
 residual-P₄ claim = claim .le
 
-pub squares-P₄ : squares-left P₄ 2 (pos 12) ≤ℤ (squares-right P₄ 2 -ℤ pos 1) → ⊥
+pub squares-P₄ : squares-left P₄ 2 (pos 36) ≤ℤ (squares-right P₄ 2 -ℤ pos 1) → ⊥
 unfolding Holds
 squares-P₄ claim = claim .le
 
-pub gap-13 : (low : ℤ) → PlanMargins P₄ 2 low (pos 13) → ⊥
+pub gap-37 : (low : ℤ) → PlanMargins P₄ 2 low (pos 37) → ⊥
 unfolding Holds
-gap-13 low claim = claim .squares .le
+gap-37 low claim = claim .squares .le
 
--- ---- C4 with p = 4, whose bound x ≤ 1 and limit −x ≤ −5 leave no feasible point. So the two claims over points ask
+-- ---- C4's figures with p = 4, whose bound x ≤ 1 and limit −x ≤ −5 leave no feasible point. So the two claims over points ask
 -- nothing, and the other two hold by computing, with gap 0: 4·5 ≤ 20, and 2·4·0 + 20² ≤ 4²·5². A claim that asks for
 -- more fails here
 abbrev pub P₅ : Problem
@@ -285,32 +275,32 @@ margins-hold-P₅ none low = record {
   squares = leZ-yes tt;
 }
 
--- ---- With starts: S7, with gap 12. The residual claim is 4·(−1) ≤ 8 − 12, and the squares claim
--- 2·4·12 + 8² ≤ 12² + 4²·(−1)²: 160 on both sides
+-- ---- With starts: L6, with gap 4. The residual claim is 2·(−1) ≤ 2 − 4, and the squares claim
+-- 2·2·4 + 2² ≤ 4² + 2²·(−1)²: 20 on both sides
 abbrev pub P₆ : Problem
-P₆ = fromSheet (S7 .sheet)
+P₆ = fromSheet (L6 .sheet)
 
-pub residual-sides-P₆ : (residual-left P₆ 1 ≡ neg 4) × (residual-right P₆ 1 ≡ neg 4)
+pub residual-sides-P₆ : (residual-left P₆ 1 ≡ neg 2) × (residual-right P₆ 1 ≡ neg 2)
 unfolding Holds
 residual-sides-P₆ = (refl, refl)
 
--- the squares claim, of every gap: 2·4·gap + 8² ≤ 12² + 4²·1²
-pub squares-say-P₆ : (low gap : ℤ) → PlanMargins P₆ 1 low gap → (pos 8 *ℤ gap +ℤ pos 64) ≤ℤ pos 160
+-- the squares claim, of every gap: 2·2·gap + 2² ≤ 4² + 2²·1²
+pub squares-say-P₆ : (low gap : ℤ) → PlanMargins P₆ 1 low gap → (pos 4 *ℤ gap +ℤ pos 4) ≤ℤ pos 20
 unfolding Holds
 squares-say-P₆ low gap claim = claim .squares
 
--- with one less on the larger side each is refuted, and so is a gap of 13
+-- with one less on the larger side each is refuted, and so is a gap of 5
 pub residual-P₆ : residual-left P₆ 1 ≤ℤ (residual-right P₆ 1 -ℤ pos 1) → ⊥
 unfolding Holds
 residual-P₆ claim = claim .le
 
-pub squares-P₆ : squares-left P₆ 1 (pos 12) ≤ℤ (squares-right P₆ 1 -ℤ pos 1) → ⊥
+pub squares-P₆ : squares-left P₆ 1 (pos 4) ≤ℤ (squares-right P₆ 1 -ℤ pos 1) → ⊥
 unfolding Holds
 squares-P₆ claim = claim .le
 
-pub gap-13-P₆ : (low : ℤ) → PlanMargins P₆ 1 low (pos 13) → ⊥
+pub gap-5 : (low : ℤ) → PlanMargins P₆ 1 low (pos 5) → ⊥
 unfolding Holds
-gap-13-P₆ low claim = claim .squares .le
+gap-5 low claim = claim .squares .le
 
 -- P₅ with the start 3: r = 1 − 3; x = 1; g = 5 − 1 = 4; closing M = 3 + 4·4 = 19. There is no feasible point, and with
 -- the gap −12 the other two claims hold by computing: 4·4 ≤ 19 − 3, and 2·4·(−12) + 19² ≤ 3² + 4²·4², 265 on both sides

@@ -17,13 +17,13 @@ use Rattle.rules.specs.Ranges.{ranges, indexOf, rangeOf, kindAt, inRange
 use Rattle.rules.specs.Ranges.{parametersInRange}
 use Rattle.rules.specs.Step.{reducedCost, amount, residual, dualValue, lookAt, greatestCost}
 use Rattle.rules.specs.Step.{cheapestCost, infeasible, moved, next, diverged}
-use Rattle.rules.specs.Run.{startingState, stateAfter, lookAfter, lowAfter, gapOf, planAfter}
+use Rattle.rules.specs.Run.{startingState, stateAfter, lookAfter, closingValue, lowAfter, gapOf, planAfter}
 use Rattle.rules.specs.Record.{recordOf, recordLength, recorded, holdsRecord}
 use Rattle.rules.specs.Refusals.{numberOf, numbered, refuse, _otherwise_, firstBelow, noFigureAt, notAbove}
 use Rattle.rules.specs.Refusals.{badKey, valueBad, badValue, crossed, sizesRefusal, keyRefusal, valueRefusal}
 use Rattle.rules.specs.Refusals.{boundRefusal, layoutRefusal}
-use Rattle.rules.specs.Answers.{outcome, refusalAt, stepRefusal, planRefusal, outcomeOf, planOf, refusal}
-use Rattle.rules.specs.Answers.{answerTo, answer, bufferOf, bufferAfter}
+use Rattle.rules.specs.Answers.{outcome, lookRefusal, refusalAt, stepRefusal, runRefusal, planRefusal}
+use Rattle.rules.specs.Answers.{outcomeOf, planOf, refusal, answerTo, answer, bufferOf, bufferAfter}
 use Rattle.rules.specs.Listing.{text, digits, decimal, spaced, line, lines, planText, refusalText, textOf}
 use Rattle.rules.specs.Listing.{listing, textFrom}
 
@@ -95,10 +95,10 @@ unfolding
     sumTo tabulate costOf loadOf unsignedAt signedOf signedAt unsignedBytes signedBytes valueUnder problemFrom ranges
     indexOf rangeOf kindAt inRange between dimensionsInRange parametersInRange anyBelow reducedCost amount residual
     dualValue lookAt greatestCost cheapestCost infeasible moved next diverged startingState stateAfter
-    lookAfter lowAfter gapOf planAfter recordOf recordLength recorded holdsRecord refuse _otherwise_ firstBelow
-    noFigureAt notAbove badKey valueBad badValue crossed sizesRefusal keyRefusal valueRefusal boundRefusal layoutRefusal
-    refusalAt stepRefusal planRefusal outcomeOf planOf refusal answerTo answer bufferOf bufferAfter text digits decimal
-    spaced line lines planText refusalText textOf listing textFrom
+    lookAfter closingValue lowAfter gapOf planAfter recordOf recordLength recorded holdsRecord refuse _otherwise_
+    firstBelow noFigureAt notAbove badKey valueBad badValue crossed sizesRefusal keyRefusal valueRefusal boundRefusal
+    layoutRefusal lookRefusal refusalAt stepRefusal runRefusal planRefusal outcomeOf planOf refusal answerTo answer
+    bufferOf bufferAfter text digits decimal spaced line lines planText refusalText textOf listing textFrom
 Holds r =
     (answer (r .sheet) (r .room) ≡ outcome (r .answer)) ×
     (bufferAfter (r .sheet) (lent (r .room)) ≡ after r) ×

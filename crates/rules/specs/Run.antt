@@ -1,8 +1,8 @@
--- TASK.md, T5: the run of k steps from the starting multipliers, and the plan that it gives.
+-- TASK.md, T5: the run of k steps from the starting multipliers, the look that closes it, and the plan that it gives.
 use Prim.Native.Nat.{ℕ, zero, suc}
 use mathlib.Core.List.{List}
 use lib.IntN.{ℤ, pos, _-ℤ_, _*ℤ_}
-use Rattle.rules.specs.Notation.{tabulate, at}
+use Rattle.rules.specs.Notation.{maxℤ, tabulate, at}
 use Rattle.rules.specs.Problem.{Problem, costOf}
 use Rattle.rules.specs.Step.{State, Look, lookAt, cheapestCost, next}
 
@@ -40,13 +40,17 @@ module _ (P : Problem) where
   stateAfter zero = startingState
   stateAfter (suc t) = next P (stateAfter t)
 
-  -- the look at the multipliers after t steps: what step t works out
+  -- the look at the multipliers after t steps: what step t works out, and what closes a run of t steps
   unfoldable pub lookAfter : ℕ → Look
   lookAfter t = lookAt P (at (stateAfter t .multipliers))
 
-  -- T5.3, low after k steps: the largest of D·cheapest cost and their dual values
+  -- T5.8, the closing value after c steps: the dual value at the multipliers that they leave, with no step more
+  unfoldable pub closingValue : ℕ → ℤ
+  closingValue c = lookAfter c .dualValue
+
+  -- T5.3, low after c steps: the largest of D·cheapest cost, their dual values, and the closing value
   unfoldable pub lowAfter : ℕ → ℤ
-  lowAfter k = stateAfter k .lowerBound
+  lowAfter c = maxℤ (stateAfter c .lowerBound) (closingValue c)
 
   -- T5.4, gap of a count of steps, a low and sums: D·cost of the sums − count·low
   unfoldable pub gapOf : ℕ → ℤ → (ℕ → ℤ) → ℤ

@@ -39,7 +39,8 @@ S2 = record {
 -- Low stays D·cheapest cost. D = 2, k = 2: cost 1, from 1 to 3, x ≤ 3, start 10. By hand:
 -- step 0: M = 10; r = 2 + 10; x = 1; g = −2; V = 2 − 20 = −18.
 -- step 1: M = 8; r = 2 + 8; x = 1; g = −2; V = 2 − 16 = −14.
--- Closing M = 6; S = 2; G = −4; the cheapest cost is 1, and low 2·1 = 2; gap 2·2 − 2·2 = 0.
+-- Closing M = 6; there r = 2 + 6; x = 1; g = −2; V = 2 − 12 = −10.
+-- S = 2; G = −4; the cheapest cost is 1, and low 2·1 = 2; gap 2·2 − 2·2 = 0.
 abbrev pub S3 : Row
 S3 = record {
   sheet = encode 1 1 1 2 2 (0 ∶ pos 1 ∷ 64 ∶ pos 1 ∷ 128 ∶ pos 3 ∷ 192 ∶ pos 1 ∷ 193 ∶ pos 3 ∷ 194 ∶ pos 10 ∷ []);
@@ -69,22 +70,23 @@ S5 = record {
   listing = text "refused 6 0\n";
 }
 
--- The residual claim and the squares claim are equations (Points). p = 4, D = 6: cost 1, most 2, −2·x ≤ −3, start 12.
+-- The closing value is the largest. p = 4, D = 6: cost 1, most 2, −2·x ≤ −3, start 12.
 -- By hand: r = 6 − 24 = −18; x = 2; g = −4 + 3 = −1; V = 12 − 12 = 0.
--- Closing M = 12 − 4 = 8; S = 2; G = −1; low 0; gap 6·2 − 0 = 12.
+-- Closing M = 12 − 4 = 8; there r = 6 − 16 = −10; x = 2; g = −1; V = 12 − 8 = 4.
+-- S = 2; G = −1; low 4; gap 6·2 − 4 = 8.
 abbrev pub S7 : Row
 S7 = record {
   sheet = encode 1 1 4 6 1 (0 ∶ pos 1 ∷ 128 ∶ pos 2 ∷ 192 ∶ neg 2 ∷ 193 ∶ neg 3 ∷ 194 ∶ pos 12 ∷ []);
   room = 38;
-  answer = Plan (pos 0) (pos 12);
-  bytes = hex "0100 0100 0100 0000000000000000 0c00000000000000 02000000 08000000 ffffffffffffffff";
-  listing = text "steps 1\nmat 0 2\nlim 0 8 -1\nlow 0\ngap 12\n";
+  answer = Plan (pos 4) (pos 8);
+  bytes = hex "0100 0100 0100 0400000000000000 0800000000000000 02000000 08000000 ffffffffffffffff";
+  listing = text "steps 1\nmat 0 2\nlim 0 8 -1\nlow 4\ngap 8\n";
 }
 
 -- Every figure, so that e is n(m+3)+2m: cost 10,000, from 1,000 to 1,000, a −1,000, b 32,000,000, start 2^30; p and D
 -- 1,024. By hand: r = 10,240,000 − 2^30·1,000 < 0; x = 1,000; g = −1,000,000 − 32,000,000 = −33,000,000;
 -- V = 10,240,000,000 − 2^30·33,000,000, far below low, which stays 1,024·10,000,000.
--- Closing M = 0, for 2^30 − 1,024·33,000,000 < 0; S = 1,000; gap 10,240,000,000 − low = 0.
+-- Closing M = 0, for 2^30 − 1,024·33,000,000 < 0; there V = 1,024·10,000,000. S = 1,000; gap 10,240,000,000 − low = 0.
 abbrev pub S8 : Row
 S8 = record {
   sheet =
