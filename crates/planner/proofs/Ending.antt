@@ -25,9 +25,9 @@ use Rattle.sheet_figures.specs.Figures.{problemOf}
 use Rattle.run_costs.specs.Costs.{costsOnly, GapFits}
 use Rattle.run_costs.specs.OfRun.{gap-fits}
 use Rattle.run_step.specs.declared.State.{State}
-use Rattle.run_step.specs.States.{stateIn}
+use Rattle.run_step.specs.States.{stateIn, closedIn}
 use Rattle.run_step.specs.Reads.{multipliers-read, sums-read, totals-read}
-use Rattle.run_step.specs.Reached.{Reached}
+use Rattle.run_step.specs.Reached.{Finished}
 use Rattle.out_record.specs.RecordParts.{planIn}
 use Rattle.planner.specs.Finish.{Ends, planWith, WriteReady}
 
@@ -52,8 +52,8 @@ pub ends-same : {p q : Plan} {met first : Option Numbered} {lent left : List ℕ
     → p ≡ q → met ≡ first → Ends p met lent left r → Ends q first lent left r
 ends-same {lent = lent} {left = left} {r = r} e m h = transport (λ i. Ends (e i) (m i) lent left r) h
 
--- ---- the plan that stands in the arrays after the last step
-module _ (f : Figures) (a : List ℤ) {w : State} (reached : Reached f a (f .steps) w) where
+-- ---- the plan that stands in the arrays at the end of the run
+module _ (f : Figures) (a : List ℤ) {w : State} (finished : Finished f a (f .steps) w) where
   abbrev P : Problem
   P = problemOf f a
 
@@ -61,12 +61,12 @@ module _ (f : Figures) (a : List ℤ) {w : State} (reached : Reached f a (f .ste
   last = stateAfter P (f .steps)
 
   low-is : w .low ≡ lowAfter P (f .steps)
-  unfolding stateIn lowAfter
-  low-is = λ i. reached .state i .low
+  unfolding closedIn
+  low-is = λ i. finished .state i .low
 
   sums-are : at (w .sums) ≡ at (last .sums)
-  unfolding stateIn
-  sums-are = sums-read (reached .accepted) (f .steps) (λ k. reached .state k .sums)
+  unfolding closedIn stateIn
+  sums-are = sums-read (finished .accepted) (f .steps) (λ k. finished .state k .sums)
 
   sums-kept : tabulate (f .materials) (at (w .sums)) ≡ last .sums
   sums-kept =
@@ -74,17 +74,17 @@ module _ (f : Figures) (a : List ℤ) {w : State} (reached : Reached f a (f .ste
       ∙ tabulate-at (f .materials) (last .sums) (sums-length P (f .steps))
 
   multipliers-kept : tabulate (f .limits) (at (w .multipliers)) ≡ last .multipliers
-  unfolding stateIn
+  unfolding closedIn stateIn
   multipliers-kept =
       (λ i.
-      tabulate (f .limits) (multipliers-read (reached .accepted) (f .steps) (λ k. reached .state k .multipliers) i))
+      tabulate (f .limits) (multipliers-read (finished .accepted) (f .steps) (λ k. finished .state k .multipliers) i))
       ∙ tabulate-at (f .limits) (last .multipliers) (multipliers-length P (f .steps))
 
   totals-kept : tabulate (f .limits) (at (w .totals)) ≡ last .residualTotals
-  unfolding stateIn
+  unfolding closedIn stateIn
   totals-kept =
       (λ i.
-      tabulate (f .limits) (totals-read (reached .accepted) (f .steps) (λ k. reached .state k .totals) i))
+      tabulate (f .limits) (totals-read (finished .accepted) (f .steps) (λ k. finished .state k .totals) i))
       ∙ tabulate-at (f .limits) (last .residualTotals) (totals-length P (f .steps))
 
   pub plan-in-arrays : planWith f w ≡ planAfter P (f .steps)
@@ -105,8 +105,8 @@ module _ (f : Figures) (a : List ℤ) {w : State} (reached : Reached f a (f .ste
     gap =
         transport
         (λ k. GapFits (costsOnly (f .materials) (f .scale) (f .cost)) (f .steps) (sym low-is k) (sym sums-are k))
-        (gap-fits f a (reached .accepted) (f .steps) (reached .few) (reached .going));
-    few = reached .accepted .limits-few;
+        (gap-fits f a (finished .accepted) (f .steps) (finished .few) (finished .going));
+    few = finished .accepted .limits-few;
     room = room;
   }
 

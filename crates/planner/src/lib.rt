@@ -2,7 +2,7 @@
 ghost use mathlib.Core.Option.{none};
 ghost use lib.ListN.{length};
 ghost use Rattle.rules.specs.Run.{planAfter};
-ghost use Rattle.rules.specs.Answers.{stepRefusal, planRefusal};
+ghost use Rattle.rules.specs.Answers.{runRefusal, planRefusal};
 ghost use Rattle.rules.specs.Promise.{Promise};
 ghost use Rattle.sheet_figures.specs.Figures.{problemOf};
 ghost use Rattle.run_step.specs.Reached.{FiguresReady};
@@ -45,7 +45,7 @@ fn write_plan(f: Figures, state: State, record: &mut [u8]) -> Answer
 fn plan_run(f: Figures, coefficient: &[i16; 512], record: &mut [u8]) -> Answer
     requires { ⌜ RunReady f (now coefficient) (now «record») ⌝ }
     ensures { λ r. ⌜ Ends (planAfter (problemOf f (now (coefficient .entry))) (f .steps))
-        (stepRefusal (problemOf f (now (coefficient .entry))) (f .steps))
+        (runRefusal (problemOf f (now (coefficient .entry))) (f .steps))
         (now («record» .entry)) (now («record» .exit)) r ⌝ }
 {
     let ran = run(f, coefficient);

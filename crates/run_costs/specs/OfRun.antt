@@ -10,11 +10,11 @@ use Rattle.proof_integer.specs.Range.{bnd-sfits}
 use Rattle.rules.specs.Notation.{at}
 use Rattle.rules.specs.Problem.{Problem, costOf}
 use Rattle.rules.specs.Run.{stateAfter, lowAfter, gapOf}
-use Rattle.rules.specs.Answers.{stepRefusal}
+use Rattle.rules.specs.Answers.{runRefusal}
 use Rattle.proof_magnitudes.specs.Accepted.{Accepted}
 use Rattle.proof_magnitudes.specs.CostRange.{greatestEnd, cheapestEnd, cheapest-minimal, greatest-minimal}
 use Rattle.proof_magnitudes.specs.Magnitudes.{CostMagnitudes, amounts-bnd, cost-magnitudes}
-use Rattle.proof_magnitudes.specs.RunMagnitudes.{run-magnitudes}
+use Rattle.proof_magnitudes.specs.RunMagnitudes.{plan-magnitudes}
 use Rattle.sheet_figures.specs.declared.Figures.{Figures}
 use Rattle.sheet_figures.specs.Figures.{problemOf}
 use Rattle.run_ends.specs.SignedEnds.{materialsOnly}
@@ -58,21 +58,21 @@ module _ (f : Figures) (a : List ℤ) {k : ℕ} (accepted : Accepted (problemOf 
       let fits = cost-fits accepted _ (cost-magnitudes accepted _ (lit≤ tt) amounts) in
       record { narrow = fits .narrow; scale = fits .scale; sum = fits .sum; scaled = fits .scaled }
 
-  -- ---- the gap after t steps, none of them refused
-  pub gap-fits : (t : ℕ) → t ≤ k → stepRefusal P t ≡ none
+  -- ---- the gap after t steps, where the run is not refused
+  pub gap-fits : (t : ℕ) → t ≤ k → runRefusal P t ≡ none
       → GapFits costs t (lowAfter P t) (at (stateAfter P t .sums))
   unfolding costOf gapOf
   gap-fits t few going =
-      let large = run-magnitudes accepted t few going .state in
+      let large = plan-magnitudes accepted t few going in
       record {
         narrow = accepted .materials-few;
         scale = accepted .scale-small;
         few = le-trans few (accepted .steps-few);
         sum = record {
-          one = λ j l. large .sums-cost .term j l .fits;
-          part = λ n l. rw +ℤ-idl (large .sums-cost .sum n l .fits);
+          one = λ j l. large .state .sums-cost .term j l .fits;
+          part = λ n l. rw +ℤ-idl (large .state .sums-cost .sum n l .fits);
         };
-        scaled = large .sums-cost .scaled .fits;
+        scaled = large .state .sums-cost .scaled .fits;
         counted = large .counted-low .fits;
         whole = large .gap .fits;
       }

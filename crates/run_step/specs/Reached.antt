@@ -1,19 +1,18 @@
--- What a run asks of the figures; a state that its steps lead to, and what a step asks of it.
+-- What a run asks of the figures; a state that its steps lead to, what a look and a step ask of it; and the end of a run.
 use mathlib.Core.Path.{_≡_}
 use mathlib.Core.List.{List}
 use mathlib.Core.Option.{none}
-use Prim.Native.Nat.{ℕ, _≤_, _<_}
+use Prim.Native.Nat.{ℕ, _≤_}
 use lib.IntN.{ℤ, pos, _*ℤ_}
 use Rattle.rules.specs.Notation.{tabulate, at}
 use Rattle.rules.specs.Step.{greatestCost}
-use Rattle.rules.specs.Run.{stateAfter}
-use Rattle.rules.specs.Answers.{stepRefusal}
+use Rattle.rules.specs.Answers.{stepRefusal, runRefusal}
 use Rattle.proof_magnitudes.specs.Accepted.{Accepted}
 use Rattle.sheet_figures.specs.declared.Figures.{Figures}
 use Rattle.sheet_figures.specs.Figures.{problemOf}
 use Rattle.sheet_figures.specs.Padded.{padded}
 use Rattle.run_step.specs.declared.State.{State}
-use Rattle.run_step.specs.States.{stateIn}
+use Rattle.run_step.specs.States.{reachedIn, closedIn}
 
 -- the figures, with the coefficients in a, are those of an accepted sheet, and no start stands past those of its limits
 pub record FiguresReady (f : Figures) (a : List ℤ) : Type 0 where
@@ -25,10 +24,16 @@ pub record Reached (f : Figures) (a : List ℤ) (k : ℕ) (w : State) : Type 0 w
   pub accepted : Accepted (problemOf f a) (f .steps)
   pub few : k ≤ f .steps
   pub going : stepRefusal (problemOf f a) k ≡ none
-  pub state : w ≡ stateIn (stateAfter (problemOf f a) k)
+  pub state : w ≡ reachedIn (problemOf f a) k
 
--- the state before step t, and D times the greatest cost
-pub record StepReady (f : Figures) (a : List ℤ) (greatest : ℤ) (t : ℕ) (w : State) : Type 0 where
+-- the state after t steps, and D times the greatest cost
+pub record LookReady (f : Figures) (a : List ℤ) (greatest : ℤ) (t : ℕ) (w : State) : Type 0 where
   pub reached : Reached f a t w
-  pub more : t < f .steps
   pub greatest-is : greatest ≡ pos (f .scale) *ℤ greatestCost (problemOf f a)
+
+-- the figures are those of an accepted sheet, and a run of k steps, which is not refused, ends with the state w
+pub record Finished (f : Figures) (a : List ℤ) (k : ℕ) (w : State) : Type 0 where
+  pub accepted : Accepted (problemOf f a) (f .steps)
+  pub few : k ≤ f .steps
+  pub going : runRefusal (problemOf f a) k ≡ none
+  pub state : w ≡ closedIn (problemOf f a) k

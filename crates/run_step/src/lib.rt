@@ -3,8 +3,8 @@ ghost use mathlib.Core.Path.{_≡_};
 ghost use Prim.Native.Nat.{suc};
 ghost use Rattle.rules.specs.Answers.{refusalAt};
 ghost use Rattle.sheet_figures.specs.Figures.{problemOf};
-ghost use Rattle.run_step.specs.States.{AfterSteps};
-ghost use Rattle.run_step.specs.Reached.{StepReady};
+ghost use Rattle.run_step.specs.States.{reachedIn, HandedBack};
+ghost use Rattle.run_step.specs.Reached.{LookReady};
 use rules::Cause;
 use rules::Refusal;
 use rules::Verdict;
@@ -49,8 +49,9 @@ impl State {
     // Step t, with D times the greatest cost: the look at the multipliers and its refusal 9, the move and its
     // refusal 10, then the sums and the totals.
     pub fn step(self, f: Figures, coefficient: &[i16; 512], greatest: i64, t: usize) -> Stepped
-        requires { ⌜ StepReady f (now coefficient) greatest t self ⌝ }
-        ensures { λ r. ⌜ AfterSteps (problemOf f (now (coefficient .entry))) (suc t)
+        requires { ⌜ LookReady f (now coefficient) greatest t self ⌝ }
+        ensures { λ r. ⌜ HandedBack (problemOf f (now (coefficient .entry)))
+            (reachedIn (problemOf f (now (coefficient .entry))) (suc t))
             (refusalAt (problemOf f (now (coefficient .entry))) t) r ⌝ }
     {
         let mut w = self;

@@ -4,11 +4,10 @@ use mathlib.Core.Option.{none}
 use borrow.Author.Needs.{needs}
 use native.Mathlib.Nat.{le-refl}
 use Rattle.rules.specs.Refusals.{refusalOf}
-use Rattle.rules.specs.Answers.{stepRefusal}
+use Rattle.rules.specs.Answers.{runRefusal}
 use Rattle.sheet_figures.specs.Figures.{problemOf}
-use Rattle.run_step.specs.States.{stateIn, stepsTaken}
-use Rattle.rules.specs.Run.{stateAfter}
-use Rattle.run_step.specs.Reached.{Reached}
+use Rattle.run_step.specs.States.{closedIn, handedState}
+use Rattle.run_step.specs.Reached.{Finished}
 use Rattle.planner.proofs.Ending.{ends-refused, ends-same, plan-in-arrays, write-ready}
 use Rattle.planner.proofs.plan_run.Statement.{statement}
 use Rattle.planner.proofs.plan_run.Tie as tie
@@ -20,7 +19,7 @@ returns c =
     let ran = stopped .before .before in
     ends-refused _ (sym (ran .run .ensures .stop) ∙ ap refusalOf (stopped .stop .given .1))
 
--- no step was refused
+-- the run was not refused
 module _ (c : tie.After-enum-told) where
   abbrev ran : tie.After-run
   ran = c .before .before
@@ -28,31 +27,29 @@ module _ (c : tie.After-enum-told) where
   abbrev s : tie.Start
   s = ran .before .before
 
-  going : stepRefusal (problemOf (s .args .f) (s .args .coefficient .now)) (s .args .f .steps) ≡ none
+  going : runRefusal (problemOf (s .args .f) (s .args .coefficient .now)) (s .args .f .steps) ≡ none
   unfolding refusalOf
   going = sym (ran .run .ensures .stop) ∙ ap refusalOf (c .enum-told .given .1)
 
-  reached : Reached (s .args .f) (s .args .coefficient .now) (s .args .f .steps) (ran .run .result .state)
-  unfolding stepsTaken
-  reached =
-      let f = s .args .f in
+  finished : Finished (s .args .f) (s .args .coefficient .now) (s .args .f .steps) (ran .run .result .state)
+  unfolding handedState
+  finished =
+      let P = problemOf (s .args .f) (s .args .coefficient .now) in
       record {
         accepted = s .pre .figures .accepted;
         few = le-refl _;
         going = going;
-        state =
-            ran .run .ensures .state
-            ∙ (λ i. stateIn (stateAfter (problemOf f (s .args .coefficient .now)) (stepsTaken (f .steps) (going i))));
+        state = ran .run .ensures .state ∙ (λ i. handedState P (closedIn P (s .args .f .steps)) (going i));
       }
 
 write-plan-requires : tie.Need-write-plan-requires
-write-plan-requires c κs = write-ready _ _ (reached (c .before)) (s (c .before) .pre .room)
+write-plan-requires c κs = write-ready _ _ (finished (c .before)) (s (c .before) .pre .room)
 
 returns-2 : tie.Need-returns-2
 returns-2 c =
     let wrote = c .before .before in
     let told = wrote .before .before in
-    ends-same (plan-in-arrays _ _ (reached told)) (sym (going told)) (wrote .write-plan .ensures)
+    ends-same (plan-in-arrays _ _ (finished told)) (sym (going told)) (wrote .write-plan .ensures)
 
 pub plan-run-spec : {M : Type 1} → statement M
 plan-run-spec =

@@ -1,12 +1,13 @@
 -- Before step t, no step was refused, and what the last one handed back is the state after t steps.
-use mathlib.Core.Path.{_≡_, refl, sym, _∙_}
-use Prim.Native.Nat.{_-_, zero-le}
+use mathlib.Core.Path.{_≡_, refl, sym, subst, _∙_}
+use Prim.Native.Nat.{ℕ, _-_, zero-le}
+use lib.IntN.{pos, _*ℤ_}
 use native.Mathlib.Omega.{arith}
 use mir.Syntax.{w64}
-use mir.Val.{SFits}
+use mir.Val.{SFits, toZ, ofZ}
 use mir.Facts.{toZ-ofZ}
 use borrow.Author.Needs.{needs}
-use Rattle.rules.specs.Problem.{costOf}
+use Rattle.rules.specs.Problem.{Problem, costOf}
 use Rattle.rules.specs.Step.{greatestCost, cheapestCost}
 use Rattle.rules.specs.Run.{startingState, stateAfter}
 use Rattle.rules.specs.Answers.{stepRefusal}
@@ -17,8 +18,7 @@ use Rattle.rules.specs.declared.Verdict.the-variants.{Passed}
 use Rattle.run_step.specs.Reached.{Reached}
 use Rattle.run_costs.specs.OfRun.{greatest-fits, cheapest-fits}
 use Rattle.run_step.specs.States.{stateIn}
-use Rattle.run_step.specs.Stops.{hands-state}
-use Rattle.run_steps.proofs.OneStep.{hands-on, still-going, next-state}
+use Rattle.run_steps.proofs.OneStep.{hands-on, still-going, next-state, hands-closed}
 use Rattle.run_steps.proofs.run.Statement.{statement}
 use Rattle.run_steps.proofs.run.Tie as tie
 
@@ -62,6 +62,15 @@ module _ (c : tie.After-starts Inv-loop μ-loop) where
   abbrev s : tie.Start Inv-loop μ-loop
   s = s-greatest (found .before)
 
+  abbrev P : Problem
+  P = problemOf (s .args .t1) (s .args .coefficient .now)
+
+  greatest-is : toZ w64 (ofZ w64 (found .greatest-value .result)) ≡ pos (P .scale) *ℤ greatestCost P
+  unfolding greatestCost costOf
+  greatest-is =
+      let fits : SFits w64 (found .greatest-value .result) = search needs in
+      toZ-ofZ fits ∙ found .greatest-value .ensures
+
 -- the multipliers are the starts, every total is 0, and low is D times the cheapest cost
 loop-holds : tie.Need-loop-holds Inv-loop μ-loop
 unfolding stepRefusal stateIn stateAfter startingState cheapestCost costOf
@@ -85,15 +94,9 @@ loop-holds c =
     )
 
 step-requires : tie.Need-step-requires Inv-loop μ-loop
-unfolding greatestCost costOf
 step-requires c κs =
-    let greatest = found (c .before .before .before) .greatest-value in
-    let fits : SFits w64 (greatest .result) = search needs in
-    record {
-      reached = c .before .before .loop .inv .1;
-      more = omega arith;
-      greatest-is = toZ-ofZ fits ∙ greatest .ensures;
-    }
+    let loop = c .before .before in
+    record { reached = loop .loop .inv .1; greatest-is = greatest-is (loop .before) }
 
 -- ---- after a step, back to where its turn began
 abbrev at-turn : tie.After-step Inv-loop μ-loop → tie.At-loop Inv-loop μ-loop
@@ -103,9 +106,7 @@ returns : tie.Need-returns Inv-loop μ-loop
 returns c =
     let stepped = c .before .before in
     let loop = at-turn stepped in
-    let given = s (loop .before) .args in
-    let f = given .t1 in
-    hands-on (problemOf f (given .coefficient .now)) (loop .loop .inv .1 .going) (stepped .step .ensures) (f .steps)
+    hands-on (P (loop .before)) _ (loop .loop .inv .1 .going) (stepped .step .ensures) (s (loop .before) .args .t1 .steps)
     (omega arith) (c .enum-told2 .given .1)
 
 loop-again : tie.Need-loop-again Inv-loop μ-loop
@@ -113,26 +114,39 @@ loop-again c =
     let stepped = c .before .before in
     let loop = at-turn stepped in
     let reached = loop .loop .inv .1 in
-    let given = s (loop .before) .args in
-    let P = problemOf (given .t1) (given .coefficient .now) in
     let going = c .enum-told .given .1 in (
       going,
       record {
         accepted = reached .accepted;
         few = omega arith;
-        going = still-going P (reached .going) (stepped .step .ensures) going;
-        state = next-state P (reached .going) (stepped .step .ensures) going;
+        going = still-going (P (loop .before)) _ (reached .going) (stepped .step .ensures) going;
+        state = next-state (P (loop .before)) _ (reached .going) (stepped .step .ensures) going;
       },
     )
 
+-- ---- after the last step
+module _ (c : tie.After-last Inv-loop μ-loop) where
+  abbrev ended : tie.At-loop Inv-loop μ-loop
+  ended = c .before .before
+
+  abbrev s-end : tie.Start Inv-loop μ-loop
+  s-end = s (ended .before)
+
+  -- all steps were taken
+  reached : Reached (s-end .args .t1) (s-end .args .coefficient .now) (s-end .args .t1 .steps) (ended .loop .r .state)
+  reached =
+      let given = s-end .args in
+      let all : ended .loop .t ≡ given .t1 .steps = omega (arith, ended .loop .inv .1 .few) in
+      subst (λ (t : ℕ). Reached (given .t1) (given .coefficient .now) t (ended .loop .r .state)) all
+      (ended .loop .inv .1)
+
+close-requires : tie.Need-close-requires Inv-loop μ-loop
+close-requires c κs = record { reached = reached c; greatest-is = greatest-is (ended c .before) }
+
 returns-2 : tie.Need-returns-2 Inv-loop μ-loop
 returns-2 c =
-    let loop = c .before .loop in
-    let given = s (c .before .before) .args in
-    let f = given .t1 in
-    let all : loop .t ≡ f .steps = omega (arith, loop .inv .1 .few) in
-    hands-state (problemOf f (given .coefficient .now)) (f .steps) (loop .inv .0)
-    (rw all at (loop .inv .1 .going)) (rw all at (loop .inv .1 .state))
+    let last = c .before in
+    hands-closed (P (ended last .before)) (s-end last .args .t1 .steps) (reached last .going) (c .close .ensures)
 
 pub run-spec : {M : Type 1} → statement M
 run-spec =
@@ -150,4 +164,5 @@ run-spec =
     (search needs)
     (λ c. omega arith)
     loop-again
+    close-requires
     returns-2)

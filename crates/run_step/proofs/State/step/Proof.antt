@@ -1,10 +1,9 @@
 -- The look gives what step t works out, and what comes back is what the step hands back.
-use mathlib.Core.Path.{_≡_, refl, sym, subst, transport, _∙_}
+use mathlib.Core.Path.{_≡_, refl, sym, transport, _∙_}
 use mathlib.Core.Bool.{false}
 use mathlib.Core.List.{List}
 use Prim.Native.Nat.{ℕ, suc}
-use lib.IntN.{ℤ, pos, _+ℤ_}
-use lib.ListN.{replicate}
+use lib.IntN.{ℤ, _+ℤ_}
 use lib.Signed.{ltZ}
 use mir.Syntax.{w32, w64}
 use mir.Val.{SFits, toZ, ofZ}
@@ -12,24 +11,23 @@ use mir.Facts.{toZ-ofZ}
 use borrow.Author.Needs.{needs}
 use Rattle.rules.specs.Notation.{maxℤ, tabulate, at}
 use Rattle.rules.specs.Problem.{Problem}
-use Rattle.rules.specs.Step.{lookAt, infeasible, moved, next, diverged}
+use Rattle.rules.specs.Step.{infeasible, moved, next, diverged}
 use Rattle.rules.specs.Run.{stateAfter, lookAfter}
 use Rattle.rules.specs.Refusals.{numberOf, numbered}
-use Rattle.proof_laws.specs.Lengths.{amounts-length, residuals-length}
 use Rattle.proof_magnitudes.specs.Accepted.{Accepted}
-use Rattle.proof_magnitudes.specs.Steps.{entering, amounts, residuals}
-use Rattle.proof_magnitudes.specs.RunMagnitudes.{RunMagnitudes, run-magnitudes}
+use Rattle.proof_magnitudes.specs.Steps.{entering, amounts, residuals, low-handed-on}
 use Rattle.sheet_figures.specs.declared.Figures.{Figures}
 use Rattle.sheet_figures.specs.Padded.{padded}
 use Rattle.sheet_figures.specs.Figures.{problemOf}
-use Rattle.run_look.specs.LookFits.{LookFits}
 use Rattle.run_moves.specs.Moves.{limitsMoved, MoveFits, places-all}
 use Rattle.run_totals.specs.Totals.{TotalsFit}
 use Rattle.run_totals.specs.Changed.{changed-end}
 use Rattle.run_step.specs.States.{stateIn}
-use Rattle.run_step.specs.Reads.{array-reads, multipliers-read, sums-read, totals-read}
+use Rattle.run_step.specs.Reads.{sums-read, totals-read}
 use Rattle.run_step.specs.Reads.{multipliers-changed, sums-changed, totals-changed}
-use Rattle.run_step.proofs.Fitting.{lookedAt, same-look, look-fits, move-fits, sums-fit, totals-fit}
+use Rattle.run_step.specs.Fitting.{move-fits, sums-fit, totals-fit}
+use Rattle.run_step.specs.Looks.{large, multipliers-enter, look-ready, amounts-read, residuals-read}
+use Rattle.run_step.specs.Looks.{test-of-run, low-of-run}
 use Rattle.run_step.specs.Stops.{refused-9, refused-10, not-refused, hands-stop, hands-state}
 use Rattle.run_step.proofs.State.step.Statement.{statement}
 use Rattle.run_step.proofs.State.step.Tie as tie
@@ -51,15 +49,11 @@ module _ (s : tie.Start) where
   accepted : Accepted P (f .steps)
   accepted = s .pre .reached .accepted
 
-  large : RunMagnitudes P t
-  large = run-magnitudes accepted t (s .pre .reached .few) (s .pre .reached .going)
-
   state-is : s .args .self ≡ stateIn (stateAfter P t)
   state-is = s .pre .reached .state
 
   M-is : at (s .args .self .multipliers) ≡ entering P t
-  unfolding stateIn
-  M-is = multipliers-read accepted t (λ k. state-is k .multipliers)
+  M-is = multipliers-enter (s .pre)
 
   sums-are : at (s .args .self .sums) ≡ at (stateAfter P t .sums)
   unfolding stateIn
@@ -80,12 +74,7 @@ abbrev s-look : tie.After-g → tie.Start
 s-look c = at-least (at-w c) .before .before .before
 
 look-at-requires : tie.Need-look-at-requires
-look-at-requires c κs =
-    let s = s-look c in
-    subst
-    (λ (M : ℕ → ℤ). LookFits (lookedAt (f s) (a s)) M (replicate 32 (pos 0)) (replicate 16 (pos 0)))
-    (sym (M-is s))
-    (look-fits (f s) (a s) (accepted s) (t s) (large s))
+look-at-requires c κs = look-ready (s-look c .pre)
 
 module _ (c : tie.After-look-at) where
   abbrev s-q : tie.Start
@@ -98,38 +87,28 @@ module _ (c : tie.After-look-at) where
   abbrev g : List ℤ
   g = c .look-at .last .1 .1 .1 .1 .1 .1 .1 .1 .1 .1 .0
 
-  q-is : lookAt (lookedAt (f s-q) (a s-q)) (at (s-q .args .self .multipliers)) ≡ lookAfter (P s-q) (t s-q)
-  unfolding lookAfter
-  q-is = same-look (f s-q) (a s-q) (at (s-q .args .self .multipliers)) ∙ (λ k. lookAt (P s-q) (M-is s-q k))
-
   x-reads : at x ≡ amounts (P s-q) (t s-q)
-  x-reads =
-      array-reads 32 _ (c .look-at .ensures .amounts-are ∙ (λ k. padded 32 (q-is k .amounts)))
-      (amounts-length (P s-q) (t s-q)) (accepted s-q .materials-few)
+  x-reads = amounts-read (s-q .pre) (c .look-at .ensures)
 
   g-reads : at g ≡ residuals (P s-q) (t s-q)
-  g-reads =
-      array-reads 16 _ (c .look-at .ensures .residuals-are ∙ (λ k. padded 16 (q-is k .residuals)))
-      (residuals-length (P s-q) (t s-q)) (accepted s-q .limits-few)
+  g-reads = residuals-read (s-q .pre) (c .look-at .ensures)
 
-  value-is : toZ w64 (ofZ w64 (c .look-at .result)) ≡ lookAfter (P s-q) (t s-q) .dualValue
-  value-is =
-      let fits : SFits w64 (c .look-at .result) = search needs in
-      toZ-ofZ fits ∙ c .look-at .ensures .value-is ∙ (λ k. q-is k .dualValue)
+  value-is : toZ w64 (ofZ w64 (c .look-at .result)) ≡ c .look-at .result
+  value-is = let fits : SFits w64 (c .look-at .result) = search needs in toZ-ofZ fits
 
   -- the test is that of T4.6
   test-9 :
       ltZ (toZ w64 (ofZ w64 (s-q .args .greatest))) (toZ w64 (ofZ w64 (c .look-at .result)))
       ≡ infeasible (P s-q) (lookAfter (P s-q) (t s-q))
-  unfolding infeasible
-  test-9 = λ k. ltZ ((toZ-ofZ (s-q .fits .greatest) ∙ s-q .pre .greatest-is) k) (value-is k)
+  test-9 =
+      (λ k. ltZ (toZ-ofZ (s-q .fits .greatest) k) (value-is k)) ∙ test-of-run (s-q .pre) (c .look-at .ensures)
 
 returns : tie.Need-returns
 unfolding numbered numberOf
 returns c =
     let q = c .before .before in
     let s = s-q q in
-    hands-stop (P s) (suc (t s)) _ (c .stopped .ensures)
+    hands-stop (P s) _ (c .stopped .ensures)
     (refused-9 (P s) (t s) (sym (test-9 q) ∙ c .before .if1 .taken)) (state-is s)
 
 -- ---- the move
@@ -141,7 +120,7 @@ move-multipliers-requires c κs =
     let q = q-move c in
     let s = s-q q in
     transport (λ k. MoveFits (limitsMoved (f s .limits) (f s .numerator)) (sym (M-is s) k) (sym (g-reads q) k))
-    (move-fits (f s) (a s) (accepted s) (t s) (large s))
+    (move-fits (f s) (a s) (accepted s) (t s) (large (s .pre)))
 
 module _ (c : tie.After-move-multipliers) where
   abbrev at-q : tie.After-look-at
@@ -169,7 +148,7 @@ unfolding numbered numberOf
 returns-2 c =
     let m = c .before .before in
     let s = s-m m in
-    hands-stop (P s) (suc (t s)) _ (c .stopped2 .ensures)
+    hands-stop (P s) _ (c .stopped2 .ensures)
     (refused-10 (P s) (t s) (feasible m) (sym (test-10 m) ∙ c .before .if2 .taken)) (state-is s)
 
 -- ---- the totals
@@ -198,14 +177,14 @@ add-amounts-requires c κs =
     let e = at-going c in
     let s = s-e e in
     transport (λ k. TotalsFit w32 32 (f s .materials) (sym (sums-are s) k) (sym (x-reads (q-e e)) k))
-    (sums-fit (f s) (a s) (accepted s) (t s) (large s))
+    (sums-fit (f s) (a s) (accepted s) (t s) (large (s .pre)))
 
 add-residuals-requires : tie.Need-add-residuals-requires
 add-residuals-requires c κs =
     let e = at-going (at-sums c .before) in
     let s = s-e e in
     transport (λ k. TotalsFit w64 16 (f s .limits) (sym (totals-are s) k) (sym (g-reads (q-e e)) k))
-    (totals-fit (f s) (a s) (accepted s) (t s) (large s))
+    (totals-fit (f s) (a s) (accepted s) (t s) (large (s .pre)))
 
 -- ---- the state after the step
 module _ (c : tie.After-larger) where
@@ -248,18 +227,20 @@ module _ (c : tie.After-larger) where
       ∙ (λ k. padded 16 (tabulate (P s-l .limits) (λ i. totals-are s-l k i +ℤ g-reads q-l k i)))
 
   low-is : toZ w64 (ofZ w64 (c .larger .result)) ≡ stateAfter (P s-l) (suc (t s-l)) .lowerBound
-  unfolding stateIn stateAfter next lookAfter
   low-is =
       let low-fits : SFits w64 (s-l .args .self .low) = search needs in
       let fits : SFits w64 (c .larger .result) = search needs in
-      let old = toZ-ofZ low-fits ∙ (λ j. state-is s-l j .low) in
-      toZ-ofZ fits ∙ c .larger .ensures ∙ (λ k. maxℤ (old k) (value-is q-l k))
+      toZ-ofZ fits
+      ∙ c .larger .ensures
+      ∙ (λ k. maxℤ (toZ-ofZ low-fits k) (value-is q-l k))
+      ∙ low-of-run (s-l .pre) (q-l .look-at .ensures)
+      ∙ low-handed-on (P s-l) (t s-l)
 
 returns-3 : tie.Need-returns-3
 unfolding stateIn
 returns-3 c =
     let s = s-l c in
-    hands-state (P s) (suc (t s)) refl (not-refused (P s) (t s) (feasible (at-m (going c))) (converges (going c)))
+    hands-state (P s) refl (not-refused (P s) (t s) (feasible (at-m (going c))) (converges (going c)))
     (λ k. record {
       multipliers = multipliers-are c k;
       sums = sums-after c k;
