@@ -23,7 +23,7 @@ use rules::Sizes;
 use sheet_write::write_sheet;
 
 // The version of the rules that this library follows.
-const VERSION: usize = 2;
+const VERSION: usize = 3;
 
 // An answer in plain numbers.
 struct Numbers {
