@@ -20,7 +20,7 @@ pub fn close(w: State, f: Figures, coefficient: &[i16; 512], greatest: i64, coun
         (closedIn (problemOf f (now (coefficient .entry))) count)
         (lookRefusal (problemOf f (now (coefficient .entry))) count) r ⌝ }
 {
-    let mut closed = w;
+    let multipliers = w.multipliers;
     let mut x: [i16; 32] = [0; 32];
     let mut g: [i32; 16] = [0; 16];
     let value = look_at(
@@ -32,7 +32,7 @@ pub fn close(w: State, f: Figures, coefficient: &[i16; 512], greatest: i64, coun
         &f.most,
         coefficient,
         &f.rhs,
-        &closed.multipliers,
+        &multipliers,
         &mut x,
         &mut g,
     );
@@ -42,9 +42,10 @@ pub fn close(w: State, f: Figures, coefficient: &[i16; 512], greatest: i64, coun
                 place: count,
                 cause: Cause::Infeasible,
             }),
-            state: closed,
+            state: w,
         };
     }
+    let mut closed = w;
     let low = closed.low;
     closed.low = larger(low, value);
     Stepped {

@@ -19,15 +19,15 @@ use Rattle.run_step.specs.Looks.{look-ready, test-of-run, low-of-run}
 use Rattle.run_close.proofs.close.Statement.{statement}
 use Rattle.run_close.proofs.close.Tie as tie
 
--- ---- the look, and its arguments: the least amounts are lent, and later the state
-abbrev at-closed : tie.After-g → tie.After-closed
-at-closed c = c .before .before .before
+-- ---- the look, and its arguments: the costs are lent, and later the right-hand sides
+abbrev at-rhs : tie.After-g → tie.After-look-at-arg4
+at-rhs c = c .before .before .before
 
-abbrev at-least : tie.After-closed → tie.After-look-at-arg2
-at-least c = c .before .before .before
+abbrev at-costs : tie.After-look-at-arg4 → tie.After-look-at-arg
+at-costs c = c .before .before .before
 
 abbrev at-start : tie.After-g → tie.Start
-at-start c = at-least (at-closed c) .before .before .before
+at-start c = at-costs (at-rhs c) .before .before .before
 
 look-at-requires : tie.Need-look-at-requires
 look-at-requires c κs = look-ready (at-start c .pre)
@@ -68,12 +68,10 @@ module _ (c : tie.After-larger) where
   feasible : infeasible (P q) (lookAfter (P q) (count q)) ≡ false
   feasible = sym (test-9 q) ∙ else .if1 .left
 
-  low-is : toZ w64 (ofZ w64 (c .larger .result)) ≡ lowAfter (P q) (count q)
+  low-is : c .larger .result ≡ lowAfter (P q) (count q)
   low-is =
       let low-fits : SFits w64 (s q .args .w .low) = search needs in
-      let fits : SFits w64 (c .larger .result) = search needs in
-      toZ-ofZ fits
-      ∙ c .larger .ensures
+      c .larger .ensures
       ∙ (λ k. maxℤ (toZ-ofZ low-fits k) (value-is q k))
       ∙ low-of-run (s q .pre) (q .look-at .ensures)
 
