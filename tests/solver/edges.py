@@ -67,9 +67,11 @@ no limits                           | plan -5 0 6 2 2   | n=3 D=5 k=2 0.0:-1 0.1
 no limits, 4,096 steps              | plan -21 0 28672 4096 | n=2 D=3 k=4096 0.0:-1 1.0:7 1.1:1 2.0:7 2.1:9
 negative low and gap                | plan -3 -9 8 3 3  | n=1 m=1 k=5 0.0:-3 1.0:1 2.0:2 3.0:1 3.1:1
 
-# No feasible recipe: step t has the dual value 4 t, over a greatest cost of 100.
+# No feasible recipe: step t has the dual value 4 t, over a greatest cost of 100. The closing look at k 26 is refused as
+# step 26 is, after an equal value in step 25, and at k 25 it is equal itself.
 no recipe at step 26                | refused 9 26      | n=1 m=1 k=4096 0.0:100 2.0:1 3.0:-1 3.1:-2
-as long as a dual value is equal    | plan 100 -2600 0 52 52 | n=1 m=1 k=26 0.0:100 2.0:1 3.0:-1 3.1:-2
+no recipe at the closing look       | refused 9 26      | n=1 m=1 k=26 0.0:100 2.0:1 3.0:-1 3.1:-2
+as long as a dual value is equal    | plan 100 -2500 0 50 50 | n=1 m=1 k=25 0.0:100 2.0:1 3.0:-1 3.1:-2
 no recipe, a greatest cost of 0     | refused 9 1       | n=1 m=1 k=2 3.1:-1
 9 and 10 in one step                | refused 9 1       | n=1 m=1 p=1024 k=2 3.1:-1000000
 10 in step 0, 9 would be in step 1  | refused 10 0      | C5 k=2
@@ -85,12 +87,12 @@ S1 with 4,096 steps                 | plan 104 120096 13650 27310 14 -5458 | S1 
 from 6 to 1                         | plan 0 0 0 1 -5   | n=1 m=1 3.1:5 3.2:6
 from 5 to 0                         | plan 0 0 0 0 -5   | n=1 m=1 3.1:5 3.2:5
 from 4 to 0                         | plan 0 0 0 0 -5   | n=1 m=1 3.1:5 3.2:4
-# The greatest start: it falls by 1; it would rise by 1; and the greatest that can, of which both claims on the steps
-# are equations.
+# The greatest start: it falls by 1; it would rise by 1; and the greatest that can, where a step more would be refused
+# with 10, and the closing look is not.
 from the greatest start down        | plan 0 0 0 1073741823 -1 | n=1 m=1 3.1:1 3.2:1073741824
 from the greatest start up          | refused 10 0 \
     | n=1 m=1 D=1024 0.0:10000 2.0:1000 3.1:-1 3.2:1073741824
-up to the greatest multiplier       | plan 1073741823 -1073741823 0 1073741824 1 \
+up to the greatest multiplier       | plan 1073741824 -1073741824 0 1073741824 1 \
     | n=1 m=1 D=1024 0.0:10000 2.0:1000 3.1:-1 3.2:1073741823
 
 # Refusal 9 at step 0. The dual value at a tie is 1 and then 2, over a greatest cost of 1; then the dual values of a
@@ -111,17 +113,50 @@ the same starts, exchanged          | plan 4 16 10 0 0 -6 -4 \
 the start of the second limit alone | plan 12 -12 0 4 8 4 6 \
     | n=1 m=2 0.0:2 2.0:10 3.0:-1 3.1:-4 4.0:-1 4.1:-6 4.2:2
 
-# Low is D times the least cost of the bounds, where no dual value is above it: -24 over -50, and 6 over -516. In the
-# third the dual values are -34, 2 and 0, and the least cost is 0.
+# Low is D times the least cost of the bounds, where no dual value is above it: -24 over -50 and a closing value of -29,
+# and 6 over -516 and a closing value of 6. In the third the dual values are -34, 2 and 0, the closing value is -4, and
+# the least cost is 0.
 low of a cost below 0               | plan -24 24 0 5 -5 | n=1 m=1 D=2 0.0:-3 2.0:4 3.0:1 3.1:5 3.2:10
 low of costs of both signs          | plan 6 18 1 2 0 -27 \
     | n=2 m=1 D=3 0.0:-2 0.1:5 1.0:1 1.1:2 2.0:4 2.1:6 3.0:1 3.1:1 3.2:30 3.3:20
 low of a later step                 | plan 2 34 20 4 -8 | n=1 m=1 k=3 0.0:2 2.0:10 3.0:-1 3.1:-4 3.2:9
 
-# Both claims on the steps (T9.5, T9.6) are equations: no multiplier is cut off at 0, and every dual value is low.
-# 2·(-1) + 2² = 1² + (1² + 0²), and 2·(-2) + 5² + 3² = 3² + 4² + (2² + 1²).
+# Both claims on the steps (T9.5, T9.6) are equations: no multiplier is cut off at 0, every dual value is low, and the
+# closing value is not above it. 2·(-1) + 2² = 1² + (1² + 0²), and 2·2·3 + 2² + 3² = 4² + 1² + 2²·(1² + 1²).
 equations of two steps              | plan 1 -1 1 2 1   | n=1 m=1 k=2 0.0:1 2.0:1 3.0:-1 3.1:-1 3.2:1
-equations of two limits             | plan 2 -2 0 5 3 2 -1 | n=1 m=2 0.0:9 2.0:9 3.1:-2 3.2:3 4.1:1 4.2:4
+equations of two limits             | plan 9 3 2 2 3 -1 1 \
+    | n=1 m=2 p=2 D=6 0.0:1 2.0:2 3.0:-2 3.1:-3 3.2:4 4.1:-1 4.2:1
+
+# Refusal 9 at the closing look. The dual values are 0, 1, 2 and so on, over greatest costs of 4,095 and 4,096; then of
+# the starts 12 and 11 they are 12 and 13, and 11 and 12, over 3 times a greatest cost of 4.
+closing 9 after 4,096 steps         | refused 9 4096    | n=1 m=1 k=4096 0.0:4095 2.0:1 3.1:-1
+closing value equal, 4,096 steps    | plan 4096 -16777216 0 4096 4096 | n=1 m=1 k=4096 0.0:4096 2.0:1 3.1:-1
+closing 9 by 1, after a start       | refused 9 1       | n=1 m=1 D=3 0.0:4 2.0:1 3.1:-1 3.2:12
+closing value equal, after a start  | plan 12 -12 0 12 1 | n=1 m=1 D=3 0.0:4 2.0:1 3.1:-1 3.2:11
+# The dual values of a start of 2 are 4, 8 and 12, and those of 1 are 2, 6 and 10, over 10.
+closing 9 after two steps           | refused 9 2       | n=1 m=1 k=2 0.0:10 2.0:1 3.0:-1 3.1:-2 3.2:2
+closing value equal, two steps      | plan 10 -20 0 5 4 | n=1 m=1 k=2 0.0:10 2.0:1 3.0:-1 3.1:-2 3.2:1
+# A greatest cost below 0, -3: the closing values are -2, and with a tie -3.
+closing 9 over a cost below 0       | refused 9 1       | n=1 m=1 0.0:-3 1.0:1 2.0:2 3.0:1
+closing value equal, below 0        | plan -3 -3 2 3 1  | n=1 m=1 0.0:-3 1.0:1 2.0:2 3.0:1 3.1:1 3.2:2
+# The last step's 10 comes before the closing look, which would be refused: with a dual value of 2^30 + 1, over 1,024
+# times a greatest cost of 2^20. With a step less it is 2^30.
+10 in step 1, 9 would be after it   | refused 10 1 \
+    | n=3 m=1 D=1024 k=2 0.0:1000 0.1:48 0.2:576 2.0:1000 2.1:1000 2.2:1 3.3:-1 3.4:1073741823
+closing value equal, greatest M     | plan 1073741824 -1073741824 0 0 0 1073741824 1 \
+    | n=3 m=1 D=1024 k=1 0.0:1000 0.1:48 0.2:576 2.0:1000 2.1:1000 2.2:1 3.3:-1 3.4:1073741823
+
+# A closing value that is above the dual values by 1; equal to the last, at another multiplier; below it; and one of
+# ties, of which either end gives the same.
+closing value above low             | plan 2 -4 0 2 2   | n=1 m=1 k=2 0.0:9 2.0:1 3.1:-1
+closing value equal to low          | plan 1 -2 0 2 2   | n=1 m=1 k=2 0.0:1 2.0:1 3.0:-1 3.1:-1
+closing value below low             | plan 2 -6 0 3 3   | n=1 m=1 k=3 0.0:2 2.0:3 3.0:-1 3.1:-1
+closing value of ties               | plan 4 -4 0 0 0 2 2 \
+    | n=3 m=1 0.0:2 0.1:4 0.2:6 2.0:5 2.1:5 2.2:5 3.0:-1 3.1:-2 3.2:-3 3.3:-2
+
+# The least and the greatest b. Their shares of the closing value, at equal multipliers, cancel.
+b at both ends of its range         | plan 0 0 0 32000000 32000000 32000000 -32000000 \
+    | n=1 m=2 3.1:-32000000 4.1:32000000 4.2:64000000
 """
 
 # A size, the ends of its range, and the refusal outside it.
@@ -135,10 +170,11 @@ def ends_of_sizes():
             yield Case(f"{name} {size}", "plan", bytes_of(f"n=1 {name}={size}"))
         for size in sorted({least - 1, greatest + 1, greatest + 256, 65_535} - {-1}):
             yield Case(f"{name} {size}", f"refused {number} 0", bytes_of(f"n=1 {name}={size}"))
-    for n, m in (1, 0), (1, 16), (32, 0), (5, 3), (32, 16):
-        # With the greatest scale the residuals do not outweigh the costs, and none is refused in its step.
+    for n, m in (1, 0), (1, 16), (32, 0), (5, 3), (5, 9), (32, 16):
+        # With the greatest scale the residuals do not outweigh the costs, and none is refused in its step. All limits
+        # of n 5, m 3 are far from being kept, and so it is refused at the closing look.
         every = full(n, m, "p=1 D=1024 k=1")
-        yield Case(f"all entries of n {n}, m {m}", "plan", bytes_of(every))
+        yield Case(f"all entries of n {n}, m {m}", "refused 9 1" if m == 3 else "plan", bytes_of(every))
         yield Case(f"one entry more than n {n}, m {m} has", "refused 2 0", bytes_of(f"{every} 65535:1"))
     yield Case("e 65535", "refused 2 0", bytes_of("n=32 m=16 e=65535"))
 
@@ -171,8 +207,8 @@ def largest_sheets():
     yield Case("longest sheet, no recipe", "refused 9", bytes_of(no_recipe))
     yield Case("longest sheet, divergence", "refused 10", bytes_of(divergence))
     # Dear materials that no limit uses. Each step moves the multiplier by 1,024 times -b, and its dual value is -b
-    # times the multiplier.
-    for b, answer in (-256, f"plan {4_095 * 2**26} {-(2**12) * 4_095 * 2**26} 0"), (-257, "refused 10 4080"):
+    # times the multiplier. At the closing look the one is 2^30, and the other 2^38.
+    for b, answer in (-256, f"plan {2**38} {-(2**50)} 0"), (-257, "refused 10 4080"):
         text = text_of("n=32 m=1 p=1024 D=1024 k=4096", [[10_000] * 32, [], [1_000] * 32, [0] * 32 + [b]])
         yield Case(f"4,096 steps with a residual of {-b}", answer, bytes_of(text))
 
@@ -195,7 +231,9 @@ def named_edges():
     cases += [Case(name, answer, bytes_of(text)) for name, answer, text in lines_of(EDGES)]
     cases += damaged_sheets()
     for name, inside, entry, sheet in ends_of_figures():
-        cases.append(Case(name, "plan" if inside else f"refused 6 {entry}", sheet))
+        # The least b is read too, but its limit cannot be kept: the closing value is 32,000,000 squared.
+        answer = "refused 9 1" if name == "b -32000000" else "plan"
+        cases.append(Case(name, answer if inside else f"refused 6 {entry}", sheet))
     return without_repeats([*cases, *ends_of_sizes(), *ends_of_keys(), *largest_sheets()])
 
 

@@ -5,6 +5,11 @@ It shares nothing with the project's code or definitions.
     listing(sheet)          what batchplan prints
     read_listing(text)      the answer and the figures that a listing shows
     reading(sheet)          the figures that are read, in a line, as the program `gate_read` prints them
+
+Of a sheet as it is read:
+
+    closing_look(s, M)      what a step at its closing multipliers would give, with the closing value as dual value
+    low_of_steps(s)         low without the closing value
 """
 import struct
 from functools import lru_cache
@@ -56,16 +61,34 @@ class Plan(NamedTuple):
     residual_totals: tuple
 
 
-class Rules(NamedTuple):
-    """The rules T4.1, T4.3, T4.6, T5.3, T5.4 and refusal 5's place. A test puts a wrong one in place of one, to see
-    that it finds it."""
+class StepRules(NamedTuple):
+    """The rules T4.1, T4.3, T4.6 and T4.8. A test puts a wrong one in place of one, to see that it finds it."""
 
     first_multiplier: Callable = lambda start, D: start
     amount: Callable = lambda reduced_cost, least, most: most if reduced_cost < 0 else least
-    is_infeasible: Callable = lambda t, dual_value, greatest_value: dual_value > greatest_value
-    low: Callable = lambda least_value, dual_values: max(least_value, *dual_values)
-    gap: Callable = lambda cost, bound: cost - bound
+    is_infeasible: Callable = lambda t, dual_value, greatest: dual_value > greatest
+    divergence: Callable = lambda s, t, multipliers: Refused(10, t)
+
+
+STEP_RULES = StepRules()
+
+
+class Rules(NamedTuple):
+    """The rules of the steps, and refusal 5's place; what the sums, the residual totals and the closing multipliers are
+    taken from (T5.1, T5.2, T5.5); the closing value, and refusal 9 there (T5.8); T5.3 and T5.4. A test puts a wrong one
+    in place of one here too."""
+
+    of_steps: StepRules = STEP_RULES
     place_of_key: Callable = lambda entry: entry
+    in_sums: Callable = lambda steps, look: steps
+    in_totals: Callable = lambda steps, look: steps
+    closing_multipliers: Callable = lambda k, last, look: last.multipliers
+    closing_value: Callable = lambda last, look: look.dual_value
+    is_infeasible: Callable = lambda closing_value, greatest: closing_value > greatest
+    closing_place: Callable = lambda k: k
+    low_of_steps: Callable = lambda least_value, dual_values: max(least_value, *dual_values)
+    low: Callable = lambda low_of_steps, closing_value: max(low_of_steps, closing_value)
+    gap: Callable = lambda cost, k, low, low_of_steps: cost - k * low
 
 
 RULES = Rules()
@@ -145,7 +168,12 @@ def columns(s):
     return tuple(zip(*s.a)) or ((),) * s.n
 
 
-def step(s, by_material, multipliers, rules=RULES):
+def greatest_value(s):
+    """The greatest dual value that is not refused (T4.6)."""
+    return s.D * greatest_cost(s)
+
+
+def step(s, by_material, multipliers, rules=STEP_RULES):
     """The step at given multipliers (T4.2 to T4.5), with the moved ones (T4.7)."""
     reduced_costs = [s.D * c + dot(multipliers, column) for c, column in zip(s.c, by_material)]
     amounts = tuple(map(rules.amount, reduced_costs, s.l, s.u))
@@ -155,17 +183,17 @@ def step(s, by_material, multipliers, rules=RULES):
     return Step(amounts, residuals, dual_value, moved)
 
 
-def steps_of(s, rules=RULES):
+def steps_of(s, rules=STEP_RULES):
     """The steps 0 to k−1, one after the other (T5), unless one is refused (T4.6, T4.8). The first begins with the
     starts of the sheet (T4.1)."""
     multipliers = tuple(rules.first_multiplier(start, s.D) for start in s.starts)
-    by_material, greatest_value = columns(s), s.D * greatest_cost(s)
+    by_material, greatest = columns(s), greatest_value(s)
     for t in range(s.k):
         done = step(s, by_material, multipliers, rules)
-        if rules.is_infeasible(t, done.dual_value, greatest_value):
+        if rules.is_infeasible(t, done.dual_value, greatest):
             raise Refused(9, t)
         if any(M > GREATEST_MULTIPLIER for M in done.multipliers):
-            raise Refused(10, t)
+            raise rules.divergence(s, t, done.multipliers)
         yield done
         multipliers = done.multipliers
 
@@ -175,20 +203,50 @@ def totals(rows):
     return tuple(map(sum, zip(*rows)))
 
 
-@lru_cache(maxsize=1)
-def all_steps(s, rules=RULES):
-    """The steps of a sheet together. The last are kept, because a test asks for a plan and then for its steps."""
-    return tuple(steps_of(s, rules))
+@lru_cache(maxsize=3)
+def steps_or_refusal(s, rules):
+    """The steps of a sheet together, or the refusal of one. The last are kept, because a test asks for a plan and then
+    for its steps, and plans a sheet by several rules, some of which differ after the steps."""
+    try:
+        return tuple(steps_of(s, rules))
+    except Refused as refusal:
+        return refusal
+
+
+def all_steps(s, rules=STEP_RULES):
+    """The steps of a sheet together, unless one is refused."""
+    steps = steps_or_refusal(s, rules)
+    if isinstance(steps, Refused):
+        raise Refused(*steps.args)
+    return steps
+
+
+def closing_look(s, multipliers, rules=STEP_RULES):
+    """What a step at the closing multipliers would give. It is not taken: its dual value is the closing value, and
+    nothing else of it counts (T5.8)."""
+    return step(s, columns(s), multipliers, rules)
+
+
+def low_of_steps(s, rules=RULES):
+    """The greatest of D times the least cost and the dual values of the steps (T5.3), without the closing value."""
+    return rules.low_of_steps(s.D * least_cost(s), [each.dual_value for each in all_steps(s, rules.of_steps)])
 
 
 @lru_cache(maxsize=1)
 def run(s, rules=RULES):
-    """The plan after k steps (T5). The last is kept, because a test plans a sheet with several buffers."""
-    steps = all_steps(s, rules)
-    low = rules.low(s.D * least_cost(s), [each.dual_value for each in steps])
-    sums = totals(each.amounts for each in steps)
-    gap = rules.gap(s.D * dot(s.c, sums), s.k * low)
-    return Plan(s.k, low, gap, sums, steps[-1].multipliers, totals(each.residuals for each in steps))
+    """The plan after k steps (T5), unless the closing look is refused. The last is kept, because a test plans a sheet
+    with several buffers."""
+    steps = all_steps(s, rules.of_steps)
+    look = closing_look(s, steps[-1].multipliers, rules.of_steps)
+    closing_value = rules.closing_value(steps[-1], look)
+    if rules.is_infeasible(closing_value, greatest_value(s)):
+        raise Refused(9, rules.closing_place(s.k))
+    before = low_of_steps(s, rules)
+    low = rules.low(before, closing_value)
+    sums = totals(each.amounts for each in rules.in_sums(steps, look))
+    residual_totals = totals(each.residuals for each in rules.in_totals(steps, look))
+    gap = rules.gap(s.D * dot(s.c, sums), s.k, low, before)
+    return Plan(s.k, low, gap, sums, rules.closing_multipliers(s.k, steps[-1], look), residual_totals)
 
 
 def record_length(n, m):

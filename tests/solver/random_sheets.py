@@ -3,7 +3,7 @@ import struct
 from typing import NamedTuple
 
 from generator import Generator
-from planner import GREATEST_MULTIPLIER, START, dot
+from planner import GREATEST_MULTIPLIER, START, Refused, dot, read, run
 from sheets import Case, bytes_of, packed, text_of
 
 
@@ -136,6 +136,21 @@ def parts_of(sheet):
     return list(sizes), list(zip(keys, struct.unpack_from(f"<{e}i", sheet, 12 + 2 * e)))
 
 
+def stopped_at_the_end(generator):
+    """A small sheet that its steps refuse, with as many as it takes: 10 comes in the last, or 9 at the closing look."""
+    wanted = generator.one_of([9, 10])
+    while True:
+        sheet = small(generator)
+        try:
+            run(read(sheet))
+        except Refused as refusal:
+            number, place = refusal.args
+            sizes, entries = parts_of(sheet)
+            k = place + 1 if number == 10 else place
+            if number == wanted and k > 0:
+                return packed([*sizes[:5], k], entries)
+
+
 def sound(generator):
     """A sheet with two entries or more, to be damaged."""
     while True:
@@ -231,7 +246,8 @@ def with_an_entry_at_the_edge(generator):
 
 # How many sheets of a seed each function makes. They come in this order.
 MAKERS = [
-    (30, small),
+    (26, small),
+    (4, stopped_at_the_end),
     (13, ties),
     (6, middle),
     (5, wide),

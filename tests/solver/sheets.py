@@ -1,5 +1,5 @@
-"""Sheets as bytes from readable text, the worked sheets C1 to C10 and S1 to S9, and families of sheets that more than
-one test is run on."""
+"""Sheets as bytes from readable text, the worked sheets C1 to C10, S1 to S9 and L1 to L6, and families of sheets that
+more than one test is run on."""
 import struct
 from itertools import combinations
 from typing import NamedTuple
@@ -33,11 +33,11 @@ TABLE = """
 C1  | n=2 m=1 D=8 k=4 0:3 1:1 128:10 129:10 192:-2 193:-1 194:-12 \
     | steps 4/mat 0 10/mat 1 20/lim 0 12 8/low 104/gap -16/
 C2  | n=2 m=1 D=8 k=1 0:3 1:1 128:10 129:10 192:-2 193:-1 194:-12 \
-    | steps 1/mat 0 0/mat 1 0/lim 0 12 12/low 0/gap 0/
+    | steps 1/mat 0 0/mat 1 0/lim 0 12 12/low 104/gap -104/
 C3  | n=1 m=1 k=2 0:1 128:1 192:-1 193:-5 | refused 9 1/
-C4  | n=1 m=1 k=1 0:1 128:1 192:-1 193:-5 | steps 1/mat 0 0/lim 0 5 5/low 0/gap 0/
+C4  | n=1 m=1 k=1 0:1 128:1 192:-1 193:-5 | refused 9 1/
 C5  | n=1 m=1 p=1024 193:-1048577         | refused 10 0/
-C6  | n=1 m=1 p=1024 193:-1048576         | steps 1/mat 0 0/lim 0 1073741824 1048576/low 0/gap 0/
+C6  | n=1 m=1 p=1024 193:-1048576         | refused 9 1/
 C7  | n=1 m=0                             | steps 1/mat 0 0/low 0/gap 0/
 C8  | n=1 m=0 k=2 0:-2 128:3              | steps 2/mat 0 6/low -6/gap 0/
 C9  | n=1 m=0 0:5 64:4 128:4              | steps 1/mat 0 4/low 20/gap 0/
@@ -57,15 +57,28 @@ mat 12 0/mat 13 0/mat 14 0/mat 15 0/mat 16 0/mat 17 0/mat 18 0/mat 19 0/mat 20 0
 mat 24 0/mat 25 0/mat 26 0/mat 27 0/mat 28 0/mat 29 0/mat 30 0/mat 31 1/lim 0 0 0/lim 1 0 0/lim 2 0 0/lim 3 0 0/\
 lim 4 0 0/lim 5 0 0/lim 6 0 0/lim 7 0 0/lim 8 0 0/lim 9 0 0/lim 10 0 0/lim 11 0 0/lim 12 0 0/lim 13 0 0/lim 14 0 0/\
 lim 15 7 0/low 5/gap 0/
-S7  | n=1 m=1 p=4 D=6 0:1 128:2 192:-2 193:-3 194:12 | steps 1/mat 0 2/lim 0 8 -1/low 0/gap 12/
+S7  | n=1 m=1 p=4 D=6 0:1 128:2 192:-2 193:-3 194:12 | steps 1/mat 0 2/lim 0 8 -1/low 4/gap 8/
 S8  | n=1 m=1 p=1024 D=1024 0:10000 64:1000 128:1000 192:-1000 193:32000000 194:1073741824 \
     | steps 1/mat 0 1000/lim 0 0 -33000000/low 10240000000/gap 0/
 S9  | n=1 m=1 0:1 64:1 128:1 192:1 193:1 194:1 195:1 | refused 2 0/
 """
+# The worked sheets of the closing look (T11.5), in the same form. L1 is C1 with another k, L4 is C2 with another p, and
+# L3 is L2 with a step more.
+CLOSING_TABLE = """
+L1  | n=2 m=1 D=8 k=2 0:3 1:1 128:10 129:10 192:-2 193:-1 194:-12 \
+    | steps 2/mat 0 0/mat 1 10/lim 0 14 14/low 104/gap -128/
+L2  | n=1 m=1 k=2 0:8 128:1 192:-1 193:-2 | steps 2/mat 0 0/lim 0 4 4/low 8/gap -16/
+L3  | n=1 m=1 k=3 0:8 128:1 192:-1 193:-2 | refused 9 3/
+L4  | n=2 m=1 p=2 D=8 k=1 0:3 1:1 128:10 129:10 192:-2 193:-1 194:-12 \
+    | steps 1/mat 0 0/mat 1 0/lim 0 24 12/low 0/gap 0/
+L5  | n=1 m=1 p=4 D=6 k=2 0:3 128:2 192:-3 193:-3 | steps 2/mat 0 2/lim 0 0 0/low 0/gap 36/
+L6  | n=1 m=1 p=2 D=6 k=1 0:1 128:2 192:-2 193:-3 194:4 | steps 1/mat 0 2/lim 0 2 -1/low 8/gap 4/
+"""
 MARKED = {name: sheet for name, sheet, _ in lines_of(TABLE)}
 STARTED = {name: sheet for name, sheet, _ in lines_of(STARTED_TABLE)}
-WORKED = {**MARKED, **STARTED}
-LISTINGS = {name: text.replace("/", "\n").encode() for name, _, text in lines_of(TABLE + STARTED_TABLE)}
+CLOSING = {name: sheet for name, sheet, _ in lines_of(CLOSING_TABLE)}
+WORKED = {**MARKED, **STARTED, **CLOSING}
+LISTINGS = {name: text.replace("/", "\n").encode() for name, _, text in lines_of(TABLE + STARTED_TABLE + CLOSING_TABLE)}
 
 
 def words_of(text):

@@ -83,6 +83,59 @@ PLAN(low_for_gap)
     return number;
 }
 
+/* A copy of a sheet with another number of steps. */
+static void copy_with_steps(const uint8_t *sheet, size_t sheet_bytes, uint8_t *copy, unsigned k)
+{
+    memcpy(copy, sheet, sheet_bytes);
+    copy[10] = k % 256;
+    copy[11] = k / 256;
+}
+
+static void put_eight_bytes(uint8_t *to, int64_t value)
+{
+    int at;
+    for (at = 0; at < 8; at++) to[at] = (uint64_t)value >> 8 * at & 255;
+}
+
+/* Leaves the closing value out of low and gap. So low is that of the sheet with a step less, of which the closing value
+ * is the dual value of the last step here. */
+PLAN(low_of_steps)
+{
+    uint8_t copy[BATCHPLAN_SHEET_BYTES], own[BATCHPLAN_RECORD_BYTES];
+    size_t number = RIGHT_PLAN, own_place;
+    int64_t own_low, own_gap;
+    unsigned k = number == BATCHPLAN_PLAN ? two_bytes(sheet + 10) : 1;
+    if (k == 1) return number;
+    copy_with_steps(sheet, sheet_bytes, copy, k - 1);
+    batchplan_plan(copy, sheet_bytes, own, sizeof own, &own_place, &own_low, &own_gap);
+    *gap += k * (*low - own_low);
+    *low = own_low;
+    put_eight_bytes(record + 6, *low);
+    put_eight_bytes(record + 14, *gap);
+    return number;
+}
+
+/* Takes a further step at the closing multipliers: sums, multipliers and residual totals are those of a step more. */
+PLAN(further_step)
+{
+    uint8_t copy[BATCHPLAN_SHEET_BYTES], own[BATCHPLAN_RECORD_BYTES];
+    size_t number = RIGHT_PLAN, own_place;
+    int64_t own_low, own_gap;
+    if (number != BATCHPLAN_PLAN) return number;
+    copy_with_steps(sheet, sheet_bytes, copy, two_bytes(sheet + 10) + 1);
+    if (batchplan_plan(copy, sheet_bytes, own, sizeof own, &own_place, &own_low, &own_gap) == BATCHPLAN_PLAN)
+        memcpy(record + 22, own + 22, 4 * two_bytes(sheet) + 12 * two_bytes(sheet + 2));
+    return number;
+}
+
+/* Names the last step where refusal 9 comes after it, at the closing look. */
+PLAN(last_step)
+{
+    size_t number = RIGHT_PLAN;
+    *place -= number == BATCHPLAN_INFEASIBLE && *place == two_bytes(sheet + 10);
+    return number;
+}
+
 /* Gives the place of a refusal as one more than it is. */
 PLAN(next_place)
 {
