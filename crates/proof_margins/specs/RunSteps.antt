@@ -52,7 +52,7 @@ module _ (P : Problem) (start-sign : StartSign P) where
   pub steps : (k : ℕ) → Steps P k (entering P) (amounts P)
   steps k t _ = facts t
 
-  -- the lower bound is above the cost of no feasible point, since neither D times the cheapest cost nor any dual value is
+  -- the lower bound is above the cost of no feasible point, as neither D times the cheapest cost nor any dual value is
   bound-below-costs : (k : ℕ) (d : ℤ) (y : ℕ → ℤ) → Feasible P d y
       → (d *ℤ stateAfter P k .lowerBound) ≤ℤ (pos (P .scale) *ℤ costOf P y)
   unfolding stateAfter startingState next lookAfter lookAt

@@ -299,8 +299,8 @@ steps =
     -- Two limits with starts of their own, 4 and 1. D = 2: cost 3, most 5, −x ≤ −2 and −2x ≤ −7. By hand:
     -- step 0: M = 4, 1; r = 6 − 4 − 2 = 0, a tie; x = 0; g = 2, 7; V = 4·2 + 1·7 = 15.
     -- closing look: M = 6, 8; r = 6 − 6 − 16 = −16; x = 5; g = −3, −3; V = 2·15 − 6·3 − 8·3 = −12.
-    -- S = 0; G = 2, 7; low 15; gap 0 − 15 = −15. With the starts exchanged r would in step 0 be 6 − 1 − 8 = −3, and with
-    -- 4 for both 6 − 4 − 8 = −6, so that x would be 5.
+    -- S = 0; G = 2, 7; low 15; gap 0 − 15 = −15. With the starts exchanged r would be 6 − 1 − 8 = −3 in step 0, and
+    -- with 4 for both 6 − 4 − 8 = −6, so that x would be 5.
     record {
       sheet =
           encode 1 2 1 2 1

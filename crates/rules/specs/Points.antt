@@ -260,9 +260,9 @@ pub gap-37 : (low : ℤ) → PlanMargins P₄ 2 low (pos 37) → ⊥
 unfolding Holds
 gap-37 low claim = claim .squares .le
 
--- ---- C4's figures with p = 4, whose bound x ≤ 1 and limit −x ≤ −5 leave no feasible point. So the two claims over points ask
--- nothing, and the other two hold by computing, with gap 0: 4·5 ≤ 20, and 2·4·0 + 20² ≤ 4²·5². A claim that asks for
--- more fails here
+-- ---- The figures of C4 with p = 4: the bound x ≤ 1 and the limit −x ≤ −5 leave no feasible point. So the two claims
+-- over points ask nothing, and the other two hold by computing, with gap 0: 4·5 ≤ 20, and 2·4·0 + 20² ≤ 4²·5². A claim
+-- that asks for more fails here
 abbrev pub P₅ : Problem
 P₅ = fromSheet (encode 1 1 4 1 1 (0 ∶ pos 1 ∷ 128 ∶ pos 1 ∷ 192 ∶ neg 1 ∷ 193 ∶ neg 5 ∷ []))
 

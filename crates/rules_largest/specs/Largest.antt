@@ -15,7 +15,8 @@ entries-S6 = 31 ∶ pos 5 ∷ 159 ∶ pos 1 ∷ 1183 ∶ neg 1 ∷ 1184 ∶ neg 
 
 -- The last limit of the largest sizes begins at 7, and moves the last material: cost 5, most 1, −x ≤ −1. By hand:
 -- step 0: M_15 = 7; r_31 = 5 − 7 = −2; x_31 = 1; g_15 = −1 + 1 = 0; V = 5.
--- Closing M_15 = 7; S_31 = 1; G_15 = 0; low 5; gap 5 − 5 = 0. From 0 the amount would be 0, and low 0.
+-- Closing M_15 = 7, where all is as in step 0; S_31 = 1; G_15 = 0; low 5; gap 5 − 5 = 0.
+-- From 0 the amount would be 0, and low 1, the closing value at M_15 = 1.
 abbrev pub S6 : Row
 S6 = record {
   sheet = encode 32 16 1 1 1 entries-S6;

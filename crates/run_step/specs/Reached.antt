@@ -1,4 +1,5 @@
--- What a run asks of the figures; a state that its steps lead to, what a look and a step ask of it; and the end of a run.
+-- What a run asks of the figures; a state that its steps lead to, and what a look and a step ask of it; the end of a
+-- run.
 use mathlib.Core.Path.{_≡_}
 use mathlib.Core.List.{List}
 use mathlib.Core.Option.{none}

@@ -106,8 +106,9 @@ returns : tie.Need-returns Inv-loop μ-loop
 returns c =
     let stepped = c .before .before in
     let loop = at-turn stepped in
-    hands-on (P (loop .before)) _ (loop .loop .inv .1 .going) (stepped .step .ensures) (s (loop .before) .args .t1 .steps)
-    (omega arith) (c .enum-told2 .given .1)
+    let k = s (loop .before) .args .t1 .steps in
+    hands-on (P (loop .before)) _ (loop .loop .inv .1 .going) (stepped .step .ensures) k (omega arith)
+    (c .enum-told2 .given .1)
 
 loop-again : tie.Need-loop-again Inv-loop μ-loop
 loop-again c =
