@@ -139,8 +139,8 @@ closing value equal, two steps      | plan 10 -20 0 5 4 | n=1 m=1 k=2 0.0:10 2.0
 # A greatest cost below 0, -3: the closing values are -2, and with a tie -3.
 closing 9 over a cost below 0       | refused 9 1       | n=1 m=1 0.0:-3 1.0:1 2.0:2 3.0:1
 closing value equal, below 0        | plan -3 -3 2 3 1  | n=1 m=1 0.0:-3 1.0:1 2.0:2 3.0:1 3.1:1 3.2:2
-# The last step's 10 comes before the closing look, which would be refused: with a dual value of 2^30 + 1, over 1,024
-# times a greatest cost of 2^20. With a step less it is 2^30.
+# 10 in the last step, where the closing look would be refused too: with a dual value of 2^30 + 1, over 1,024 times a
+# greatest cost of 2^20. With a step less it is 2^30.
 10 in step 1, 9 would be after it   | refused 10 1 \
     | n=3 m=1 D=1024 k=2 0.0:1000 0.1:48 0.2:576 2.0:1000 2.1:1000 2.2:1 3.3:-1 3.4:1073741823
 closing value equal, greatest M     | plan 1073741824 -1073741824 0 0 0 1073741824 1 \
