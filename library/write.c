@@ -75,7 +75,11 @@ static void print_refusal(size_t number, size_t place)
         printf("refused: the sheet wants a buffer of %zu bytes\n", place);
         break;
     case BATCHPLAN_INFEASIBLE:
-        printf("refused: no recipe keeps all bounds and limits, as step %zu shows\n", place);
+        fputs("refused: no recipe keeps all bounds and limits, as ", stdout);
+        if (place < STEPS)
+            printf("step %zu shows\n", place);
+        else
+            puts("the closing multipliers show");
         break;
     case BATCHPLAN_DIVERGED:
         printf("refused: a multiplier ran away in step %zu\n", place);

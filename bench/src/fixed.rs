@@ -70,7 +70,7 @@ impl Figures {
 }
 
 impl State {
-    /// Step t.
+    /// Step t. The closing look is the head of a step, at t = k.
     fn step(&mut self, f: &Figures, dearest: i64, t: usize) -> Result<(), Refusal> {
         let (n, m) = (f.size.n.min(32), f.size.m.min(16));
         let amounts = f.amounts(&self.multipliers);
@@ -82,6 +82,10 @@ impl State {
         }
         if value > dearest {
             return Err(refuse(Cause::Infeasible, t));
+        }
+        self.low = self.low.max(value);
+        if t == f.size.k {
+            return Ok(());
         }
         let mut greatest = 0;
         for i in 0..m {
@@ -95,7 +99,6 @@ impl State {
         for j in 0..n {
             self.sums[j] += i32::from(amounts[j]);
         }
-        self.low = self.low.max(value);
         Ok(())
     }
 }
@@ -104,7 +107,7 @@ fn walk(f: &Figures) -> Result<State, Refusal> {
     let multipliers = f.start.map(i64::from);
     let mut state = State { multipliers, sums: [0; 32], overshoots: [0; 16], low: f.cheapest() };
     let dearest = f.dearest();
-    for t in 0..f.size.k {
+    for t in 0..f.size.k + 1 {
         state.step(f, dearest, t)?;
     }
     Ok(state)

@@ -104,11 +104,15 @@ impl State {
         value
     }
 
-    /// Step t.
+    /// Step t. The closing look is the head of a step, at t = k.
     fn step(&mut self, f: &Figures, dearest: i64, t: usize) -> Result<(), Refusal> {
         let value = self.evaluate(f);
         if value > dearest {
             return Err(refuse(Cause::Infeasible, t));
+        }
+        self.low = self.low.max(value);
+        if t == f.size.k {
+            return Ok(());
         }
         for i in 0..f.size.m {
             self.multipliers[i] = (self.multipliers[i] + f.size.p * self.misses[i]).max(0);
@@ -120,7 +124,6 @@ impl State {
         for j in 0..f.size.n {
             self.sums[j] += self.amounts[j];
         }
-        self.low = self.low.max(value);
         Ok(())
     }
 }
@@ -128,7 +131,7 @@ impl State {
 fn walk(f: &Figures) -> Result<State, Refusal> {
     let mut state = State::new(f);
     let dearest = f.dearest();
-    for t in 0..f.size.k {
+    for t in 0..f.size.k + 1 {
         state.step(f, dearest, t)?;
     }
     Ok(state)

@@ -3,8 +3,9 @@
  *
  * A sheet has n materials with costs and bounds, m limits with their starting multipliers, a step length p/D and a step
  * count k. Planning it takes k steps of a dual subgradient method in whole numbers, and gives the sums of the amounts,
- * a lower bound on cost (low), a gap, and for each limit the closing multiplier and the residual total. docs/TASK.md
- * states every rule; T7.4 and the like are its anchors.
+ * a lower bound on cost (low), a gap, and for each limit the closing multiplier and the residual total. At the closing
+ * multipliers no further step is taken, but low counts their dual value too. docs/TASK.md states every rule; T7.4 and
+ * the like are its anchors.
  *
  * A sheet, lowest byte first, has 12 + 6e bytes (T2):
  *   at 0        the sizes n, m, e, p, D, k, of 2 bytes each, unsigned
@@ -73,9 +74,15 @@ extern "C" {
  * lacks the symbol.
  *
  * Version 2 has the starts, and longer sheets with them: 3852 bytes in place of 3756. A sheet that version 1 reads has
- * no starts, and its answer and its record are what they were.
+ * no starts, and its answer and its record are in version 2 what they were.
+ *
+ * Version 3 counts the dual value at the closing multipliers in low, and leaves lengths and layouts as they were. For
+ * the same sheet low may be higher than in version 2, and gap is then lower, by k times as much; neither is ever worse.
+ * A sheet that version 2 plans may be refused, with 9 at the place k, where that value shows that there is no recipe.
+ * Sums, multipliers and residual totals of a plan are what they were, and a sheet that version 2 refuses has the same
+ * refusal.
  */
-#define BATCHPLAN_VERSION 2
+#define BATCHPLAN_VERSION 3
 
 /* The length of the longest sheet. A longer one is refused; and a buffer of this length takes every sheet that is
  * written, so that 8 never comes. */
@@ -101,7 +108,8 @@ enum {
                                 * neither 0 nor in its range; place 0 */
     BATCHPLAN_BOUNDS = 7,      /* a material's least amount is above its most amount; place: the material */
     BATCHPLAN_BUFFER = 8,      /* the buffer is too short; place: the length of the record or the sheet */
-    BATCHPLAN_INFEASIBLE = 9,  /* no recipe keeps all bounds and limits ("no blend"); place: the step */
+    BATCHPLAN_INFEASIBLE = 9,  /* no recipe keeps all bounds and limits ("no blend"); place: the step that shows it, or
+                                * k where the closing multipliers do, after the last step (T5.8) */
     BATCHPLAN_DIVERGED = 10    /* a multiplier grew above 1,073,741,824; place: the step */
 };
 
@@ -110,7 +118,9 @@ enum {
  *
  * For a plan: the answer is 0, *place is 0, *low and *gap are the plan's figures, and the record stands at the start of
  * the buffer. The bytes of the buffer after the record are as they were. No feasible recipe costs less than low / D,
- * and none is cheaper than the average by more than gap / (k * D). D stands in the sheet, and not in the record.
+ * and none is cheaper than the average by more than gap / (k * D). D stands in the sheet, and not in the record. Low is
+ * the greatest of D times the least cost that the bounds leave, the dual values of the k steps, and the dual value at
+ * the closing multipliers (T5.3); gap goes by this low (T5.4).
  *
  * For a refusal: the answer is its number, 1 to 10, *place is its place, *low and *gap are 0, and every byte of the
  * buffer is as it was.

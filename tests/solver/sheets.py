@@ -1,4 +1,4 @@
-"""Sheets as bytes from readable text, the worked sheets C1 to C10, S1 to S9 and L1 to L6, and families of sheets that
+"""Sheets as bytes from readable text, the worked sheets C1 to C10, S1 to S9 and L1 to L7, and families of sheets that
 more than one test is run on."""
 import struct
 from itertools import combinations
@@ -65,14 +65,16 @@ S9  | n=1 m=1 0:1 64:1 128:1 192:1 193:1 194:1 195:1 | refused 2 0/
 # The worked sheets of the closing look (T11.5), in the same form. L1 is C1 with another k, L4 is C2 with another p, and
 # L3 is L2 with a step more.
 CLOSING_TABLE = """
-L1  | n=2 m=1 D=8 k=2 0:3 1:1 128:10 129:10 192:-2 193:-1 194:-12 \
-    | steps 2/mat 0 0/mat 1 10/lim 0 14 14/low 104/gap -128/
+L1  | n=2 m=1 D=8 k=3 0:3 1:1 128:10 129:10 192:-2 193:-1 194:-12 \
+    | steps 3/mat 0 10/mat 1 20/lim 0 0 -4/low 104/gap 88/
 L2  | n=1 m=1 k=2 0:8 128:1 192:-1 193:-2 | steps 2/mat 0 0/lim 0 4 4/low 8/gap -16/
 L3  | n=1 m=1 k=3 0:8 128:1 192:-1 193:-2 | refused 9 3/
 L4  | n=2 m=1 p=2 D=8 k=1 0:3 1:1 128:10 129:10 192:-2 193:-1 194:-12 \
     | steps 1/mat 0 0/mat 1 0/lim 0 24 12/low 0/gap 0/
 L5  | n=1 m=1 p=4 D=6 k=2 0:3 128:2 192:-3 193:-3 | steps 2/mat 0 2/lim 0 0 0/low 0/gap 36/
 L6  | n=1 m=1 p=2 D=6 k=1 0:1 128:2 192:-2 193:-3 194:4 | steps 1/mat 0 2/lim 0 2 -1/low 8/gap 4/
+L7  | n=1 m=1 D=1024 0:10000 128:1000 193:-1 194:1073741823 \
+    | steps 1/mat 0 0/lim 0 1073741824 1/low 1073741824/gap -1073741824/
 """
 MARKED = {name: sheet for name, sheet, _ in lines_of(TABLE)}
 STARTED = {name: sheet for name, sheet, _ in lines_of(STARTED_TABLE)}

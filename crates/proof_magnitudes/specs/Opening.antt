@@ -63,6 +63,6 @@ module _ (P : Problem) (some : 1 ≤ P .scale)
       ap (λ x. P .cost j *ℤ x) (amounts-are P 0 j l ∙ amount-at-zero P (entering P 0) entering-zero some j)))
 
   -- so that it is the lower bound after step 0
-  pub first-low : stateAfter P 1 .lowerBound ≡ lookAfter P 0 .dualValue
+  pub first-bound : stateAfter P 1 .lowerBound ≡ lookAfter P 0 .dualValue
   unfolding stateAfter startingState next lookAfter
-  first-low = max-cases _ _ (λ low. low ≡ lookAfter P 0 .dualValue) (λ _. refl) (λ _. sym first-value)
+  first-bound = max-cases _ _ (λ low. low ≡ lookAfter P 0 .dualValue) (λ _. refl) (λ _. sym first-value)

@@ -41,8 +41,8 @@ pub record StateMagnitudes (P : Problem) (t : ℕ) : Type 0 where
   pub low : Fits64 (stateAfter P t .lowerBound) 327680000000
   pub sums-cost : CostMagnitudes P (at (stateAfter P t .sums)) 4096000
 
--- After t steps: the state, the look and the step that it enters, and what that step adds to the totals. Of the last
--- step's state the look is the closing look.
+-- After t steps: the state, the look and the step that it enters, and what that step adds to the totals. Of the state
+-- after the last step the look is the closing look.
 pub record RunMagnitudes (P : Problem) (t : ℕ) : Type 0 where
   pub state : StateMagnitudes P t
   pub step : StepMagnitudes P (entering P t) (amounts P t)

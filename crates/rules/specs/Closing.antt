@@ -1,4 +1,4 @@
--- TASK.md, T11.5: sheets that settle the closing look, L1 to L6, in one table, with one proof that the definitions give
+-- TASK.md, T11.5: sheets that settle the closing look, L1 to L7, in one table, with one proof that the definitions give
 -- it.
 use Prim.Native.Nat.{ℕ}
 use mathlib.Core.Path.{_≡_, refl}
@@ -13,15 +13,16 @@ use Rattle.rules.specs.Listing.{text}
 use Rattle.rules.specs.Rows.{Entry, _∶_, encode, hex, Row, Holds, AllHold, _and_}
 use Rattle.rules.specs.Marked.{entries-C1}
 
--- C1 with k 2: the closing value is below low. After steps 0 and 1 of C1, M = 14; r = −4, −6; x = 10, 10; g = −18;
--- V = 320 − 252 = 68, and low is 104, that of step 1. S = 0, 10; G = 12 + 2; gap 8·10 − 2·104 = −128.
+-- C1 with k 3: low is the value of step 1, 104, and neither that of the last step, 68, nor the closing value. After
+-- steps 0 to 2 of C1, M = 0; r = 24, 8; x = 0, 0; g = 12; V = 0. S = 10, 20; G = 12 + 2 − 18 = −4;
+-- gap 8·(30 + 20) − 3·104 = 88.
 abbrev pub L1 : Row
 L1 = record {
-  sheet = encode 2 1 1 8 2 entries-C1;
+  sheet = encode 2 1 1 8 3 entries-C1;
   room = 43;
-  answer = Plan (pos 104) (neg 128);
-  bytes = hex "0200 0100 0200 6800000000000000 80ffffffffffffff 00000000 0a000000 0e000000 0e00000000000000";
-  listing = text "steps 2\nmat 0 0\nmat 1 10\nlim 0 14 14\nlow 104\ngap -128\n";
+  answer = Plan (pos 104) (pos 88);
+  bytes = hex "0200 0100 0300 6800000000000000 5800000000000000 0a000000 14000000 00000000 fcffffffffffffff";
+  listing = text "steps 3\nmat 0 10\nmat 1 20\nlim 0 0 -4\nlow 104\ngap 88\n";
 }
 
 abbrev entries-L2 : List Entry
@@ -91,9 +92,23 @@ L6 = record {
   listing = text "steps 1\nmat 0 2\nlim 0 2 -1\nlow 8\ngap 4\n";
 }
 
--- T11.5, L1 to L6
+-- The greatest multiplier at the end. Refusal 10 is not looked for at the closing look, from which a further step would
+-- lead to 2^30 + 1. D = 1,024: cost 10,000, most 1,000, 0 ≤ −1, start 2^30 − 1. By hand:
+-- step 0: M = 2^30 − 1; r = 10,240,000; x = 0; g = 1; V = 2^30 − 1.
+-- closing look: M = 2^30; the same r, x and g; V = 2^30, and 1,024 times the greatest cost is 10,240,000,000.
+-- S = 0; G = 1; low 2^30; gap 0 − 2^30.
+abbrev pub L7 : Row
+L7 = record {
+  sheet = encode 1 1 1 1024 1 (0 ∶ pos 10000 ∷ 128 ∶ pos 1000 ∷ 193 ∶ neg 1 ∷ 194 ∶ pos 1073741823 ∷ []);
+  room = 38;
+  answer = Plan (pos 1073741824) (neg 1073741824);
+  bytes = hex "0100 0100 0100 0000004000000000 000000c0ffffffff 00000000 00000040 0100000000000000";
+  listing = text "steps 1\nmat 0 0\nlim 0 1073741824 1\nlow 1073741824\ngap -1073741824\n";
+}
+
+-- T11.5, L1 to L7
 abbrev pub table : List Row
-table = L1 ∷ L2 ∷ L3 ∷ L4 ∷ L5 ∷ L6 ∷ []
+table = L1 ∷ L2 ∷ L3 ∷ L4 ∷ L5 ∷ L6 ∷ L7 ∷ []
 
 -- They follow from the definitions.
 pub closing : AllHold table
@@ -105,12 +120,13 @@ closing =
     and (refl, refl, refl, refl)
     and (refl, refl, refl, refl)
     and (refl, refl, refl, refl)
+    and (refl, refl, refl, refl)
     and tt
 
 -- ---- their bytes: the six sizes, the keys, the values
 pub bytes-are :
     map (λ r. r .sheet) table
-    ≡ (hex "0200 0100 0700 0100 0800 0200  0000 0100 8000 8100 c000 c100 c200"
+    ≡ (hex "0200 0100 0700 0100 0800 0300  0000 0100 8000 8100 c000 c100 c200"
     ++ hex "03000000 01000000 0a000000 0a000000 feffffff ffffffff f4ffffff") ∷
     hex "0100 0100 0400 0100 0100 0200  0000 8000 c000 c100  08000000 01000000 ffffffff feffffff" ∷
     hex "0100 0100 0400 0100 0100 0300  0000 8000 c000 c100  08000000 01000000 ffffffff feffffff" ∷
@@ -118,6 +134,7 @@ pub bytes-are :
     ++ hex "03000000 01000000 0a000000 0a000000 feffffff ffffffff f4ffffff") ∷
     hex "0100 0100 0400 0400 0600 0200  0000 8000 c000 c100  03000000 02000000 fdffffff fdffffff" ∷
     hex "0100 0100 0500 0200 0600 0100  0000 8000 c000 c100 c200  01000000 02000000 feffffff fdffffff 04000000" ∷
+    hex "0100 0100 0400 0100 0004 0100  0000 8000 c100 c200  10270000 e8030000 ffffffff ffffff3f" ∷
     []
 unfolding Holds
 bytes-are = refl
@@ -127,8 +144,9 @@ abbrev closing-of : Row → ℕ → ℤ
 closing-of r = closingValue (problem (sheetOf (r .sheet)))
 
 pub closing-values :
-    closing-of L1 2 ∷ closing-of L2 2 ∷ closing-of L3 3 ∷ closing-of L4 1 ∷ closing-of L5 2 ∷ closing-of L6 1 ∷ []
-    ≡ pos 68 ∷ pos 8 ∷ pos 12 ∷ neg 112 ∷ pos 0 ∷ pos 6 ∷ []
+    closing-of L1 3 ∷ closing-of L2 2 ∷ closing-of L3 3 ∷ closing-of L4 1 ∷ closing-of L5 2 ∷ closing-of L6 1 ∷
+    closing-of L7 1 ∷ []
+    ≡ pos 0 ∷ pos 8 ∷ pos 12 ∷ neg 112 ∷ pos 0 ∷ pos 6 ∷ pos 1073741824 ∷ []
 unfolding Holds
 closing-values = refl
 

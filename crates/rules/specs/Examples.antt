@@ -39,7 +39,7 @@ refusal-row sheet room cause place listing =
       listing = text listing;
     }
 
--- ---- the examples of T7.4; those of 7, 9 and 10 are C10, C3 and C5
+-- ---- the examples of T7.4; those of 7, 9 and 10 are C10, C3 with C4, and C5
 abbrev pub examples : List Row
 examples =
     -- 11 bytes

@@ -20,7 +20,7 @@
 --   Rows       how a table of sheets is written
 --   Marked     C1 to C10
 --   Started    S1 to S9: sheets with starts
---   Closing    L1 to L6: the closing look
+--   Closing    L1 to L7: the closing look
 --   Examples   the examples of the refusals, their order, the ends of the ranges, and steps worked by hand
 --   Points     feasible points and points just outside; what T9.3 to T9.7 say in numbers; claims refuted
 -- Signs: `pos n` and `negsuc n` are the integers n and −(n + 1); `+ℤ -ℤ *ℤ` reckon with integers, and `≤ℤ <ℤ` compare

@@ -33,7 +33,7 @@ pub record PlanMargins (P : Problem) (k : ℕ) (low gap : ℤ) : Type 0 where
       +ℤ square (pos (P .numerator))
       *ℤ sumTo k (λ t. sumTo (P .limits) (λ i. square (at (lookAfter P t .residuals) i))))
 
--- A plan has its margins; and T9.7: where the answer is refusal 9 ("no blend"), at whatever step, there is no feasible
+-- A plan has its margins; and T9.7: where the answer is refusal 9 ("no blend"), at whatever place, there is no feasible
 -- point. Nothing is said the other way round (T7.6).
 unfoldable pub Margins : List ℕ → Outcome → Type 0
 Margins s (plan low gap) = PlanMargins (problem (sheetOf s)) (sheetOf s .sizes .steps) low gap

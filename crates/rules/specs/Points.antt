@@ -18,7 +18,7 @@ use Rattle.rules.specs.Answers.{plan, refused, answer}
 use Rattle.rules.specs.Margins.{square, PlanMargins, Margins}
 use Rattle.rules.specs.Rows.{_∶_, encode, Holds}
 use Rattle.rules.specs.Marked.{C1, C3, C7, C9}
-use Rattle.rules.specs.Closing.{L4, L5, L6}
+use Rattle.rules.specs.Closing.{L2, L4, L5, L6}
 
 -- the problem of a sheet's bytes
 abbrev pub fromSheet : List ℕ → Problem
@@ -232,6 +232,12 @@ residual-P₂ claim = claim .le
 pub squares-P₂ : squares-left P₂ 1 (pos 0) ≤ℤ (squares-right P₂ 1 -ℤ pos 1) → ⊥
 unfolding Holds
 squares-P₂ claim = claim .le
+
+-- ---- L2, of two steps: the residual claim is 1·4 ≤ 4
+pub residual-sides-L2 :
+    (residual-left (fromSheet (L2 .sheet)) 2 ≡ pos 4) × (residual-right (fromSheet (L2 .sheet)) 2 ≡ pos 4)
+unfolding Holds
+residual-sides-L2 = (refl, refl)
 
 -- ---- L5, with a gap that is not 0: p = 4 and gap 36. The residual claim is 4·0 ≤ 0, and the squares claim
 -- 2·4·36 + 0² ≤ 4²·(3² + 3²): 288 on both sides

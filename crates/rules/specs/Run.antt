@@ -35,7 +35,7 @@ module _ (P : Problem) where
     lowerBound = pos (P .scale) *ℤ cheapestCost P;
   }
 
-  -- T5.7, the state after t steps, whether or not one of them is refused: `stepRefusal` says where the run ends
+  -- T5.7, the state after t steps, whether or not one of them is refused: `runRefusal` says where the run ends
   unfoldable pub stateAfter : ℕ → State
   stateAfter zero = startingState
   stateAfter (suc t) = next P (stateAfter t)

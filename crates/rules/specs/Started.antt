@@ -25,8 +25,8 @@ S1 = record {
   listing = text "steps 4\nmat 0 10\nmat 1 30\nlim 0 14 -2\nlow 104\ngap 64\n";
 }
 
--- C4 goes on where it ended, at 5. Refused 9 at 0: r = 1 − 5; x = 1; g = 5 − 1 = 4; V = 1 + 5·4 = 21, and the greatest
--- cost is 1
+-- C4 with 5, to which its one step leads, as the start. Refused 9 at 0: r = 1 − 5; x = 1; g = 5 − 1 = 4;
+-- V = 1 + 5·4 = 21, and the greatest cost is 1
 abbrev pub S2 : Row
 S2 = record {
   sheet = encode 1 1 1 1 1 (entries-C3 ++ (194 ∶ pos 5 ∷ []));

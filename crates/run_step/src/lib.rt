@@ -23,6 +23,7 @@ pub struct State {
     pub sums: [i32; 32],
     // residual total i at place i
     pub totals: [i64; 16],
+    // low so far, and in the end with the closing value
     pub low: i64,
 }
 

@@ -2,8 +2,9 @@
 //!
 //! A sheet has n materials with costs and bounds, m limits with their starting multipliers, a step length p/D and a
 //! step count k. Planning it takes k steps of a dual subgradient method in whole numbers, and gives the sums of the
-//! amounts, a lower bound on cost (`low`), a gap, and for each limit the closing multiplier and the overshoot.
-//! docs/TASK.md of the project states the layout of a sheet and every rule.
+//! amounts, a lower bound on cost (`low`), a gap, and for each limit the closing multiplier and the overshoot. At
+//! the closing multipliers no further step is taken, but low counts their dual value too. docs/TASK.md of the project
+//! states the layout of a sheet and every rule.
 //!
 //! The work is done by a library in Rattle that is proved to answer, for every sheet and every buffer, what these rules
 //! give. This crate declares its functions and makes them safe to call: every function here takes any bytes and any
@@ -47,8 +48,13 @@ pub use table::{write_sheet, Arrays, LimitRow, Material, Sizes, Steps, Table};
 /// another number, the archive that was linked is not the one that this crate was written for.
 ///
 /// Version 2 has the starts, and longer sheets with them. A sheet that version 1 reads has no starts, and its answer
-/// and its record are what they were.
-pub const VERSION: usize = 2;
+/// and its record are in version 2 what they were.
+///
+/// Version 3 counts the dual value at the closing multipliers in low. For the same sheet low may be higher than in
+/// version 2, and gap is then lower, by k times as much; neither is ever worse. A sheet that version 2 plans may be
+/// refused, with [`Cause::Infeasible`] at the place k. Sums, multipliers and overshoots of a plan are what they were,
+/// and a sheet that version 2 refuses has the same refusal.
+pub const VERSION: usize = 3;
 
 /// The length of the longest sheet. A longer one is refused; and a buffer of this length takes every sheet that is
 /// written, so that no table is refused with 8.
@@ -134,7 +140,8 @@ pub enum Cause {
     Bounds = 7,
     /// The buffer is too short. The place is the length that the record has, or the sheet.
     Buffer = 8,
-    /// No recipe keeps all bounds and limits ("no blend"). The place is the step.
+    /// No recipe keeps all bounds and limits ("no blend"). The place is the step that shows it, or k where the
+    /// closing multipliers do, after the last step.
     Infeasible = 9,
     /// A multiplier grew above 1,073,741,824. The place is the step.
     Diverged = 10,
@@ -204,7 +211,8 @@ impl Error for Refusal {}
 pub enum Answer {
     /// A plan. Its record stands at the start of the buffer, and the bytes after it are as they were.
     Plan {
-        /// D times a lower bound on the cost of every feasible recipe.
+        /// D times a lower bound on the cost of every feasible recipe: the best that the bounds, the steps and the
+        /// closing multipliers give.
         low: i64,
         /// k times D times a bound on what the averaged recipe costs more than any feasible one. It may be negative.
         gap: i64,
@@ -265,8 +273,8 @@ pub struct Limit {
 pub struct Plan {
     /// k.
     pub steps: u16,
-    /// D times a lower bound on the cost of every feasible recipe. The scale D stands in the sheet, at bytes 8 and 9,
-    /// and not in the record.
+    /// D times a lower bound on the cost of every feasible recipe: the best that the bounds, the steps and the closing
+    /// multipliers give. The scale D stands in the sheet, at bytes 8 and 9, and not in the record.
     pub low: i64,
     /// k times D times a bound on what the averaged recipe costs more than any feasible one. It may be negative.
     pub gap: i64,

@@ -41,15 +41,11 @@ fn refused(cause: Cause, place: usize) -> Result<Plan, Refusal> {
 fn marked() -> Vec<(&'static str, Vec<u8>, Result<Plan, Refusal>)> {
     vec![
         ("C1", c1(4), planned(4, [104, -16], &[10, 20], &[(12, 8)])),
-        ("C2", c1(1), planned(1, [0, 0], &[0, 0], &[(12, 12)])),
+        ("C2", c1(1), planned(1, [104, -104], &[0, 0], &[(12, 12)])),
         ("C3", c3(2), refused(Cause::Infeasible, 1)),
-        ("C4", c3(1), planned(1, [0, 0], &[0], &[(5, 5)])),
+        ("C4", c3(1), refused(Cause::Infeasible, 1)),
         ("C5", sheet([1, 1, 1024, 1, 1], &[(193, -1_048_577)]), refused(Cause::Diverged, 0)),
-        (
-            "C6",
-            sheet([1, 1, 1024, 1, 1], &[(193, -1_048_576)]),
-            planned(1, [0, 0], &[0], &[(1_073_741_824, 1_048_576)]),
-        ),
+        ("C6", sheet([1, 1, 1024, 1, 1], &[(193, -1_048_576)]), refused(Cause::Infeasible, 1)),
         ("C7", sheet([1, 0, 1, 1, 1], &[]), planned(1, [0, 0], &[0], &[])),
         ("C8", sheet([1, 0, 1, 1, 2], &[(0, -2), (128, 3)]), planned(2, [-6, 0], &[6], &[])),
         (
@@ -61,8 +57,8 @@ fn marked() -> Vec<(&'static str, Vec<u8>, Result<Plan, Refusal>)> {
     ]
 }
 
-/// Sheets with a start: C4 with the multiplier at which C3 is refused; one whose dual value, -10, is below the least
-/// cost of the bounds, 0, where low begins; and the ends of the range.
+/// Sheets with a start: C4 with the multiplier at which C3 is refused; one whose dual values, -10 and at the closing
+/// multiplier -9, are below the least cost of the bounds, 0, where low begins; and the ends of the range.
 fn started() -> Vec<(&'static str, Vec<u8>, Result<Plan, Refusal>)> {
     let one = |entries: &[(u16, i32)]| sheet([1, 1, 1, 1, 1], entries);
     vec![
@@ -83,6 +79,27 @@ fn started() -> Vec<(&'static str, Vec<u8>, Result<Plan, Refusal>)> {
         ),
         ("a start above that", one(&[(194, 1_073_741_825)]), refused(Cause::Value, 0)),
         ("a start below 0", one(&[(194, -1)]), refused(Cause::Value, 0)),
+    ]
+}
+
+/// The sheets of docs/TASK.md, T11.5, on which the closing value bears.
+fn closing() -> Vec<(&'static str, Vec<u8>, Result<Plan, Refusal>)> {
+    let l2 = |steps| sheet([1, 1, 1, 1, steps], &[(0, 8), (128, 1), (192, -1), (193, -2)]);
+    vec![
+        ("L1", c1(3), planned(3, [104, 88], &[10, 20], &[(0, -4)])),
+        ("L2", l2(2), planned(2, [8, -16], &[0], &[(4, 4)])),
+        ("L3", l2(3), refused(Cause::Infeasible, 3)),
+        ("L4", sheet([2, 1, 2, 8, 1], &C1), planned(1, [0, 0], &[0, 0], &[(24, 12)])),
+        (
+            "L5",
+            sheet([1, 1, 4, 6, 2], &[(0, 3), (128, 2), (192, -3), (193, -3)]),
+            planned(2, [0, 36], &[2], &[(0, 0)]),
+        ),
+        (
+            "L6",
+            sheet([1, 1, 2, 6, 1], &[(0, 1), (128, 2), (192, -2), (193, -3), (194, 4)]),
+            planned(1, [8, 4], &[2], &[(2, -1)]),
+        ),
     ]
 }
 
@@ -112,7 +129,8 @@ fn going_on(entries: &[(u16, i32)], plan: &Plan) -> Vec<(u16, i32)> {
     all
 }
 
-/// The plan of two together, of which the second goes on from the first.
+/// The plan of two together, of which the second goes on from the first. The closing value of the first is the dual
+/// value of the second's step 0, so that the larger low counts every dual value of the whole run.
 fn joined(first: &Plan, second: &Plan) -> Plan {
     let low = first.low.max(second.low);
     // D times the cost of the sums
@@ -155,8 +173,8 @@ fn tried(sheet: &[u8], length: usize) -> Answer {
 }
 
 #[test]
-fn marked_and_started_sheets() {
-    for (name, sheet, expected) in marked().into_iter().chain(started()) {
+fn worked_sheets() {
+    for (name, sheet, expected) in marked().into_iter().chain(started()).chain(closing()) {
         assert_eq!(Plan::of_sheet(&sheet), expected, "{name}");
         assert_eq!(listing(&sheet), text_of(&expected), "{name}");
         tried(&sheet, RECORD_BYTES);
@@ -280,23 +298,50 @@ fn small_sheets_whole_and_damaged() {
     assert!(met.iter().all(|&count| count > 4), "plans and refusals 1 to 10 all occur: {met:?}");
 }
 
-/// A plan and one that goes on from it are, together, the plan of all their steps.
+/// A plan and one that goes on from it are, together, the plan of all their steps. A refusal of the first is that of
+/// all of them. What goes on from a plan is never refused with 9 at its step 0: the plan's closing value was tested.
 #[test]
 fn plans_that_go_on_are_one_plan() {
     let mut generator = Generator(3);
-    let mut met = [0; 2];
-    for _ in 0..1_000 {
+    let mut met = [0; 3];
+    for _ in 0..3_000 {
         let ([n, m, p, d, k], entries) = generator.parts();
-        let Ok(first) = Plan::of_sheet(&sheet([n, m, p, d, k], &entries)) else { continue };
         let later = 1 + generator.below(60) as u16;
-        let second = Plan::of_sheet(&sheet([n, m, p, d, later], &going_on(&entries, &first)));
-        let expected = second
-            .map(|second| joined(&first, &second))
-            .map_err(|refusal| Refusal { place: refusal.place + usize::from(k), ..refusal });
-        met[usize::from(expected.is_err())] += 1;
+        let (expected, kind) = match Plan::of_sheet(&sheet([n, m, p, d, k], &entries)) {
+            Err(refusal) => (Err(refusal), 0),
+            Ok(first) => {
+                match Plan::of_sheet(&sheet([n, m, p, d, later], &going_on(&entries, &first))) {
+                    Ok(second) => (Ok(joined(&first, &second)), 1),
+                    Err(Refusal { cause, place }) => {
+                        assert_ne!((cause, place), (Cause::Infeasible, 0));
+                        (refused(cause, place + usize::from(k)), 2)
+                    }
+                }
+            }
+        };
+        met[kind] += 1;
         assert_eq!(Plan::of_sheet(&sheet([n, m, p, d, k + later], &entries)), expected);
     }
-    assert!(met.iter().all(|&count| count > 9), "plans and refusals occur: {met:?}");
+    assert!(met.iter().all(|&count| count > 9), "plans and refusals of both occur: {met:?}");
+}
+
+/// Where step t is refused with 9, a sheet of t steps has the same refusal, at its closing multipliers; and one of a
+/// step less has a plan.
+#[test]
+fn what_a_step_shows_the_closing_multipliers_show() {
+    let mut generator = Generator(5);
+    let mut met = [0; 2];
+    for _ in 0..2_000 {
+        let ([n, m, p, d, k], entries) = generator.parts();
+        let of_steps = |steps: usize| Plan::of_sheet(&sheet([n, m, p, d, steps as u16], &entries));
+        let refusal = of_steps(usize::from(k));
+        if let Err(Refusal { cause: Cause::Infeasible, place: place @ 1.. }) = refusal {
+            assert_eq!(of_steps(place), refusal);
+            assert!(place == 1 || of_steps(place - 1).is_ok());
+            met[usize::from(place > 1)] += 1;
+        }
+    }
+    assert!(met.iter().all(|&count| count > 9), "refusals at step 1 and later occur: {met:?}");
 }
 
 #[test]
