@@ -137,8 +137,9 @@ def parts_of(sheet):
 
 
 def stopped_at_the_end(generator):
-    """A small sheet that its steps refuse, with as many as it takes: 10 comes in the last, or 9 at the closing look."""
-    wanted = generator.one_of([9, 10])
+    """A small sheet that its steps refuse, with another number of them: 9 comes at the closing look, 10 comes in the
+    last, or 10 would come in one more."""
+    wanted, more = generator.one_of([(9, 0), (10, 1), (10, 0)])
     while True:
         sheet = small(generator)
         try:
@@ -146,9 +147,8 @@ def stopped_at_the_end(generator):
         except Refused as refusal:
             number, place = refusal.args
             sizes, entries = parts_of(sheet)
-            k = place + 1 if number == 10 else place
-            if number == wanted and k > 0:
-                return packed([*sizes[:5], k], entries)
+            if number == wanted and place + more > 0:
+                return packed([*sizes[:5], place + more], entries)
 
 
 def sound(generator):
