@@ -78,7 +78,8 @@ extern "C" {
  *
  * Version 3 counts the dual value at the closing multipliers in low, and leaves lengths and layouts as they were. For
  * the same sheet low may be higher than in version 2, and gap is then lower, by k times as much; neither is ever worse.
- * A sheet that version 2 plans may be refused, with 9 at the place k, where that value shows that there is no recipe.
+ * A sheet that version 2 plans may be refused, with 9 at the place k, where that value shows that there is no recipe:
+ * the place of 9 goes from 0 to k, and no longer to k - 1.
  * Sums, multipliers and residual totals of a plan are what they were, and a sheet that version 2 refuses has the same
  * refusal.
  */

@@ -52,9 +52,10 @@ def plain(text):
     return re.sub(r"(\d+)\^(\d+)", lambda power: str(int(power[1]) ** int(power[2])), text)
 
 
-def decimal(value, places=0):
-    """A number in decimal, rounded to some places."""
-    return f"{Decimal(round(value * 10**places)).scaleb(-places):f}"
+def decimal(value, places=0, whole=round):
+    """A number in decimal, made whole in its last place: rounded, or by ceil where it is the most that may be, and by
+    floor where it is the least."""
+    return f"{Decimal(whole(value * 10**places)).scaleb(-places):f}"
 
 
 def figures_in(text):

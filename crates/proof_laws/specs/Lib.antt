@@ -8,6 +8,7 @@
 --   Passed       the tests that a sheet passed which is read
 --   Given        what holds where a refusal with some number is given
 --   FirstPlace   the chain of refusals and the first place, as code meets them
+--   Counts       what the refusal of a run says of longer ones
 --   Outputs      how writing bytes to a lent buffer ends
 --   Agreeing     only the figures of the n materials and the m limits count
 pub mod Read
@@ -19,5 +20,6 @@ pub mod NotRefused
 pub mod Passed
 pub mod Given
 pub mod FirstPlace
+pub mod Counts
 pub mod Outputs
 pub mod Agreeing
