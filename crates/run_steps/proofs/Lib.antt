@@ -1,3 +1,3 @@
 -- What the proofs share.
---   OneStep   one turn of the run
+--   OneStep   one turn of the run, and the closing look after the last
 pub mod OneStep
