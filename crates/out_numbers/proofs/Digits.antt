@@ -1,38 +1,35 @@
--- The digits of a number from its first on, and how many there are.
+-- The digits of a number from its last on, and how many there are.
 use Prim.Native.Nat.{ℕ, zero, suc, _+_, _/_, _%_, _^_, _<_, _≤_}
-use mathlib.Core.Path.{_≡_, refl, _∙_}
+use mathlib.Core.Path.{_≡_, refl, ap, _∙_}
 use mathlib.Core.List.{List, [], _∷_, _++_}
-use native.Mathlib.Nat.{pow-suc, pow-succ', one-le-pow, div-one, div-div-eq-div-mul, le-div-iff-mul-le}
+use native.Mathlib.Nat.{pow-suc, one-le-pow, le-div-iff-mul-le}
 use native.Mathlib.Numerals.{add-one}
 use native.Mathlib.Omega.{arith}
 use lib.ListN.{length, length-append}
 use lib.IntN.{pos}
 use Rattle.rules.specs.Listing.{text, digits, decimal}
 
--- the last i digits of v, each cut out by a power of ten
-unfoldable pub cut : ℕ → ℕ → List ℕ
-cut zero v = []
-cut (suc i) v = (48 + v / 10 ^ i % 10) ∷ cut i v
+-- the last i digits of v: those of its tenth, and then its last
+unfoldable pub lastDigits : ℕ → ℕ → List ℕ
+lastDigits zero v = []
+lastDigits (suc i) v = lastDigits i (v / 10) ++ ((48 + v % 10) ∷ [])
 
--- the last of them is v % 10, and those before it are cut out of v / 10
-cut-last : (i v : ℕ) → cut (suc i) v ≡ cut i (v / 10) ++ ((48 + v % 10) ∷ [])
-unfolding cut
-cut-last zero v = simp div-one
-cut-last (suc i) v = rw (pow-succ', ← div-div-eq-div-mul v 10 (10 ^ i), cut-last i v)
+pub length-last : (i v : ℕ) → length (lastDigits i v) ≡ i
+unfolding lastDigits
+length-last zero v = refl
+length-last (suc i) v = simp (length-append, length-last i (v / 10), add-one)
 
--- cut out as many as there are, they are the digits that the definition has
-cut-digits : (d v : ℕ) → cut (length (digits d v)) v ≡ digits d v
-unfolding cut digits
-cut-digits zero v = refl
-cut-digits (suc d) zero = refl
-cut-digits (suc d) (suc v) =
-    let rest = digits d (suc v / 10) in
-    simp (length-append, add-one) (cut-last (length rest) (suc v) ∙ rw (cut-digits d (suc v / 10)))
+-- as many as there are, they are the digits that the definition has
+last-digits : (d v : ℕ) → lastDigits (length (digits d v)) v ≡ digits d v
+unfolding lastDigits digits
+last-digits zero v = refl
+last-digits (suc d) zero = refl
+last-digits (suc d) (suc v) = simp (length-append, add-one) (rw (last-digits d (suc v / 10)))
 
-pub cut-decimal : (v : ℕ) → cut (length (decimal (pos v))) v ≡ decimal (pos v)
-unfolding cut decimal text
-cut-decimal zero = refl
-cut-decimal (suc v) = cut-digits (suc v) (suc v)
+pub last-decimal : (v : ℕ) → lastDigits (length (decimal (pos v))) v ≡ decimal (pos v)
+unfolding lastDigits decimal text
+last-decimal zero = refl
+last-decimal (suc v) = last-digits (suc v) (suc v)
 
 -- every number has a digit
 pub some-decimal : (v : ℕ) → 0 < length (decimal (pos v))

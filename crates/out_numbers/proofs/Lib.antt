@@ -1,3 +1,5 @@
 -- What the proofs share.
---   Digits   the digits of a number from its first on, and how many there are
+--   Digits      the digits of a number from its last on, and how many there are
+--   LastFirst   bytes that are put from their last one on
 pub mod Digits
+pub mod LastFirst

@@ -1,67 +1,51 @@
 // Numbers in decimal (T8.3), put at the end of a text that grows in lent bytes (`out_text`).
 ghost use mathlib.Core.Path.{_≡_};
-ghost use Prim.Native.Nat.{_<_, _^_};
-ghost use lib.ListN.{length};
+ghost use lib.ListN.{length, set};
 ghost use lib.IntN.{pos};
 ghost use Rattle.rules.specs.Listing.{decimal};
 ghost use Rattle.out_text.specs.Text.{Puts};
 use out_text::put_byte;
 
-// The powers of ten that 64 bits can hold.
-const POWERS: [u64; 20] = [
-    1,
-    10,
-    100,
-    1000,
-    10000,
-    100000,
-    1000000,
-    10000000,
-    100000000,
-    1000000000,
-    10000000000,
-    100000000000,
-    1000000000000,
-    10000000000000,
-    100000000000000,
-    1000000000000000,
-    10000000000000000,
-    100000000000000000,
-    1000000000000000000,
-    10000000000000000000,
-];
-
-// Ten to the power i.
-fn power(i: usize) -> u64
-    requires { ⌜ i < 20 ⌝ }
-    ensures { λ r. ⌜ r ≡ 10 ^ i ⌝ }
-{
-    POWERS[i]
-}
-
-// How many digits v has.
+// How many digits v has. A power of ten grows while it is at most a tenth of v, so that ten times it fits.
 fn places(v: u64) -> usize
     ensures { λ r. ⌜ r ≡ length (decimal (pos v)) ⌝ }
 {
+    let tenth = v / 10;
+    let mut power: u64 = 1;
     let mut count: usize = 1;
-    while count < 20 {
-        if v < power(count) {
-            return count;
-        }
+    while power <= tenth {
+        power *= 10;
         count += 1;
     }
     count
 }
 
-// A number in decimal.
+// One byte at a place, where there is such a place.
+fn set_byte(d: &mut [u8], place: usize, byte: u8)
+    ensures { λ _. ⌜ now (d .exit) ≡ set (now (d .entry)) place byte ⌝ }
+{
+    if place < d.len() {
+        d[place] = byte;
+    }
+}
+
+// A number in decimal. Its digits are worked out from the last one on, and go to their places.
 pub fn put_number(d: &mut [u8], at: usize, v: u64) -> usize
     ensures { λ r. ⌜ Puts (decimal (pos v)) (now (d .entry)) at (now (d .exit)) r ⌝ }
 {
-    let mut end = at;
-    let mut left = places(v);
-    while 0 < left {
-        left -= 1;
-        end = put_byte(d, end, 48 + (v / power(left) % 10) as u8);
+    if d.len() <= at {
+        return at;
+    }
+    let end = at + places(v);
+    let mut place = end;
+    let mut left = v;
+    while at < place {
+        place -= 1;
+        set_byte(d, place, 48 + (left % 10) as u8);
+        left /= 10;
+    }
+    if d.len() < end {
+        return d.len();
     }
     end
 }

@@ -1,5 +1,5 @@
 -- Below 0, −1 − v is `mag v`, and the digits after the sign are those of one more. From 0 on, v is its own magnitude.
-use Prim.Native.Nat.{_+_, _<_}
+use Prim.Native.Nat.{ℕ, _+_, _<_}
 use mathlib.Core.Path.{_≡_, refl, _∙_}
 use mathlib.Core.Bool.{true, false}
 use mathlib.Core.List.{[], _∷_, _++_}
@@ -14,15 +14,15 @@ use mir.Val.{SFits, toZ, ofZ}
 use mir.Facts.{toZ-ofZ, toZ-pos}
 use Rattle.proof_integer.specs.Range.{mag-below-zero}
 use Rattle.rules.specs.Listing.{text, decimal}
-use Rattle.out_text.specs.Growing.{then}
+use Rattle.out_text.specs.Growing.{then, puts-as}
 use Rattle.out_numbers.proofs.put_integer.Statement.{statement}
 use Rattle.out_numbers.proofs.put_integer.Tie as tie
 
 -- what is below 0
-below-decimal : (z : ℤ) → ltZ z (pos 0) ≡ true → (45 ∷ []) ++ decimal (pos (mag z + 1)) ≡ decimal z
+below-decimal : (z : ℤ) (m : ℕ) → ltZ z (pos 0) ≡ true → m ≡ mag z + 1 → (45 ∷ []) ++ decimal (pos m) ≡ decimal z
 unfolding decimal text
-below-decimal (pos n) h = let g : n < 0 = ltb-true n 0 h in absurd (omega arith)
-below-decimal (negsuc n) h = rw add-one
+below-decimal (pos n) m h e = let g : n < 0 = ltb-true n 0 h in absurd (omega arith)
+below-decimal (negsuc n) m h e = rw (e, add-one)
 
 -- what is not
 natural : (z : ℤ) → ltZ z (pos 0) ≡ false → z ≡ pos (mag z)
@@ -72,7 +72,9 @@ returns c =
     let number = c .before .before in
     let n = below (number .before) in
     let digits-put = simp (less-bits n) at (number .put-number .ensures) in
-    rw (below-decimal (v n) (negative n)) at (then (sign (number .before) .put-byte .ensures) digits-put)
+    puts-as
+    (below-decimal (v n) _ (negative n) (omega (arith, fits n .sfits)))
+    (then (sign (number .before) .put-byte .ensures) digits-put)
 
 -- ---- from 0 on
 module _ (c : tie.Else1) where

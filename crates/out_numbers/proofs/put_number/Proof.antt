@@ -1,46 +1,73 @@
--- Before each turn the last `left` digits of v are left to put.
-use Prim.Native.Nat.{suc, _-_, _≤_}
-use mathlib.Core.Path.{_≡_}
-use native.Mathlib.Nat.{one-le-pow}
+-- Before each turn the places from `at` to `place` are still to take the last digits of `left`, one each.
+use Prim.Native.Nat.{suc, _+_, _-_, _/_, _≤_}
+use mathlib.Core.Path.{_≡_, refl, sym}
+use mathlib.Core.List.{[]}
 use native.Mathlib.Omega.{arith}
 use borrow.Author.Needs.{needs}
+use lib.ListN.{length}
 use lib.IntN.{pos}
 use Rattle.rules.specs.Listing.{decimal}
-use Rattle.out_text.specs.Growing.{length-kept}
 use Rattle.out_numbers.specs.DecimalLength.{length-decimal-pos}
-use Rattle.out_numbers.proofs.Digits.{cut, cut-decimal}
-use Rattle.out_text.specs.StillToPut.{StillToPut, left-next, left-none}
+use Rattle.out_numbers.proofs.Digits.{lastDigits, last-decimal, length-last}
+use Rattle.out_numbers.proofs.LastFirst.{StillToLay, last-stored, none-left, puts-past}
 use Rattle.out_numbers.proofs.put_number.Statement.{statement}
 use Rattle.out_numbers.proofs.put_number.Tie as tie
 
 abbrev Inv-loop : tie.InvT-loop
-Inv-loop d₀ at v end₀ left₀ d end left = (left ≤ 20) × StillToPut (decimal (pos v)) d₀ at (cut left v) d end
+Inv-loop d₀ at v end place₀ left₀ d place left =
+    (at ≤ place) × StillToLay (decimal (pos v)) d₀ at (lastDigits (place - at) left) d
 
 abbrev μ-loop : tie.MeasureT-loop
-μ-loop d₀ at v end₀ left₀ d end left = left
+μ-loop d₀ at v end place₀ left₀ d place left = place
+
+returns : tie.Need-returns Inv-loop μ-loop
+returns c = record { is = sym (puts-past _ _ _ (c .if1 .taken)) }
+
+add-end : tie.Need-add-end Inv-loop μ-loop
+add-end c =
+    let few = length-decimal-pos (c .before .before .before .args .v) (omega arith) in
+    record { fits = omega (arith, c .places .ensures, few) }
 
 loop-holds : tie.Need-loop-holds Inv-loop μ-loop
 loop-holds c =
-    let v = c .before .before .args .v in
-    (omega (arith, length-decimal-pos v (omega arith)), record { is = rw (c .places .ensures, cut-decimal v) })
-
-div-put-byte : tie.Need-div-put-byte Inv-loop μ-loop
-div-put-byte c = omega (arith, one-le-pow (c .before .before .before .loop .left - 1) 10 (omega arith))
+    let at = c .before .before .before .args .at in
+    let all : at + c .places .result - at ≡ c .places .result = omega arith in
+    (omega arith, record { is = rw (all, c .places .ensures, last-decimal); length-is = refl })
 
 loop-again : tie.Need-loop-again Inv-loop μ-loop
-unfolding cut
+unfolding lastDigits
 loop-again c =
     let called = c .before .before in
-    let at-power = called .before in
-    let tested = at-power .before .before in
-    let turn = tested .before in
-    let e : turn .loop .left ≡ suc (turn .loop .left - 1) = omega arith in
-    let digit-put = rw (at-power .power .ensures) at (called .put-byte .ensures) in
-    (omega arith, left-next (rw e at (turn .loop .inv .1)) digit-put)
+    let turn = called .before .before .before in
+    let at = turn .before .before .before .before .args .at in
+    let e : turn .loop .place - at ≡ suc (turn .loop .place - 1 - at) = omega arith in
+    let shorter = length-last (turn .loop .place - 1 - at) (turn .loop .left / 10) in
+    (omega arith, last-stored _ (rw e at (turn .loop .inv .1)) (omega (arith, shorter)) (called .set-byte .ensures))
 
-returns : tie.Need-returns Inv-loop μ-loop
-unfolding cut
-returns c = let e : c .before .loop .left ≡ 0 = omega arith in left-none (rw e at (c .before .loop .inv .1))
+-- after the last turn no place is left
+module _ (c : tie.After-loop Inv-loop μ-loop) where
+  abbrev turn : tie.At-loop Inv-loop μ-loop
+  turn = c .before
+
+  abbrev counted : tie.After-places Inv-loop μ-loop
+  counted = turn .before
+
+  abbrev start : tie.Start Inv-loop μ-loop
+  start = counted .before .before .before
+
+  none : StillToLay (decimal (pos (start .args .v))) (start .args .d .now) (start .args .at) [] (turn .loop .d)
+  unfolding lastDigits
+  none = let e : turn .loop .place - start .args .at ≡ 0 = omega arith in rw e at (turn .loop .inv .1)
+
+returns-2 : tie.Need-returns-2 Inv-loop μ-loop
+returns-2 c =
+    let n = none (c .before) in
+    none-left n (omega arith) (omega (arith, n .length-is, counted (c .before) .places .ensures))
+
+returns-3 : tie.Need-returns-3 Inv-loop μ-loop
+returns-3 c =
+    let n = none (c .before) in
+    none-left n (omega arith) (omega (arith, n .length-is, counted (c .before) .places .ensures))
 
 pub put-number-spec : {M : Type 1} → statement M
 put-number-spec =
@@ -48,15 +75,17 @@ put-number-spec =
     (tie.spec
     Inv-loop
     μ-loop
+    returns
     (λ c κs. search needs)
+    add-end
     loop-holds
     (search needs)
-    (λ c κs. search needs)
-    div-put-byte
     (search needs)
     (search needs)
     (λ c κs. search needs)
-    (λ c. omega arith)
+    (search needs)
     loop-again
-    (λ c. length-kept (returns c))
-    returns)
+    (search needs)
+    returns-2
+    (search needs)
+    returns-3)
