@@ -1,11 +1,12 @@
-//! Times the proved planner beside plain Rust planners, the proved writer of sheets beside plain ones, and the program
-//! batchplan beside the solver glpsol. Nothing is asserted of a time.
+//! Times the proved planner beside plain Rust planners, the proved writer of sheets and the proved listing beside plain
+//! ones, and the program batchplan beside the solver glpsol. Nothing is asserted of a time.
 
 // docs/TASK.md writes its sums by index, and so do the planners here.
 #![allow(clippy::needless_range_loop)]
 
 mod fixed;
 mod layout;
+mod listing;
 mod plain;
 mod process;
 mod sheets;
@@ -27,7 +28,7 @@ const PLANNERS: [Planner; 3] = [plan, plain::plan, fixed::plan];
 type Case = (Vec<u8>, usize);
 
 /// Nanoseconds for one call: for each case, those of each planner.
-type Round = Vec<[f64; 3]>;
+pub type Round = Vec<[f64; 3]>;
 
 pub fn median(values: impl Iterator<Item = f64>) -> f64 {
     let mut values: Vec<f64> = values.collect();
@@ -57,9 +58,7 @@ fn check(sheet: &Sheet) {
     assert!(matches!(answer, Answer::Plan { .. }), "{}: {answer:?}", sheet.name);
     let mut generator = Generator(3);
     for _ in 0..300 {
-        let mut bytes = sheet.with_steps(if generator.between(0, 1) == 0 { 1 } else { 40 });
-        let place = generator.between(0, bytes.len() as i32 - 1) as usize;
-        bytes[place] = generator.between(0, 255) as u8;
+        let bytes = sheet.damaged(&mut generator);
         let room = if generator.between(0, 9) == 0 { 30 } else { RECORD_BYTES };
         agreed(sheet.name, &(bytes, room));
     }
@@ -97,12 +96,22 @@ pub fn line(name: &str, rounds: &[Round], of: impl Fn(&Round) -> [f64; 3]) {
     let times = [0, 1, 2].map(|i| median(rounds.iter().map(|round| of(round)[i])) / 1000.0);
     let ratios = [1, 2].map(|i| median(rounds.iter().map(|round| of(round)[0] / of(round)[i])));
     let ([proved, plain, fixed], [to_plain, to_fixed]) = (times, ratios);
-    println!("{name:30} {proved:11.3} {plain:11.3} {fixed:11.3}   {to_plain:6.2} {to_fixed:7.2}");
+    println!("{name:30} {proved:11.3} {plain:11.3} {fixed:11.3}  {to_plain:7.2} {to_fixed:7.2}");
 }
 
 pub fn headline(what: &str) {
-    let [proved, plain, fixed] = ["proved, us", "Vec, us", "arrays, us"];
-    println!("{what:30} {proved:>11} {plain:>11} {fixed:>11}   {:>6} {:>7}", "/Vec", "/arrays");
+    headline_beside(what, ["Vec", "arrays"]);
+}
+
+/// The head of a table, with the names of the two others.
+pub fn headline_beside(what: &str, others: [&str; 2]) {
+    let [proved, plain, fixed] = ["proved", others[0], others[1]].map(|name| format!("{name}, us"));
+    let [to_plain, to_fixed] = others.map(|name| format!("/{name}"));
+    println!("{what:30} {proved:>11} {plain:>11} {fixed:>11}  {to_plain:>7} {to_fixed:>7}");
+}
+
+pub fn less(a: [f64; 3], b: [f64; 3]) -> [f64; 3] {
+    [0, 1, 2].map(|i| a[i] - b[i])
 }
 
 /// Where the time of a sheet goes: reading, which a buffer of no bytes ends with refusal 8; the first step with the
@@ -110,7 +119,6 @@ pub fn headline(what: &str) {
 fn parts(sheet: &Sheet, later: u16) {
     let cases = [(1, 0), (1, RECORD_BYTES), (1 + later, RECORD_BYTES)];
     let rounds = rounds(&cases.map(|(k, room)| (sheet.with_steps(k), room)));
-    let less = |a: [f64; 3], b: [f64; 3]| [0, 1, 2].map(|i| a[i] - b[i]);
     println!("{}", sheet.name);
     line("  read", &rounds, |round| round[0]);
     line("  first step, closing, record", &rounds, |round| less(round[1], round[0]));
@@ -138,6 +146,8 @@ fn main() {
     }
     println!();
     writing::compare(&timed);
+    println!();
+    listing::compare(&timed);
     println!();
     process::compare(&timed[2..]);
 }

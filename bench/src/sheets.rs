@@ -61,6 +61,26 @@ impl Sheet {
         bytes
     }
 
+    /// The same sheet with 1 or 40 steps, and one byte that may be another.
+    pub fn damaged(&self, generator: &mut Generator) -> Vec<u8> {
+        let mut bytes = self.with_steps(if generator.between(0, 1) == 0 { 1 } else { 40 });
+        let place = generator.between(0, bytes.len() as i32 - 1) as usize;
+        bytes[place] = generator.between(0, 255) as u8;
+        bytes
+    }
+
+    /// A sheet of 16 steps that is like this one: amounts and right-hand sides are 16 times as large, so that sums and
+    /// overshoots stay long and there is still a recipe, and the starts `starts` times.
+    pub fn in_16_steps(&self, name: &'static str, starts: i32) -> Sheet {
+        let n = self.cost.len();
+        let larger = |figures: &[i32]| figures.iter().map(|figure| 16 * figure).collect();
+        let limit =
+            |limit: &Vec<i32>| [&limit[..n], &[16 * limit[n], starts * limit[n + 1]]].concat();
+        let (cost, limits) = (self.cost.clone(), self.limits.iter().map(limit).collect());
+        let (least, most) = (larger(&self.least), larger(&self.most));
+        Sheet { name, k: 16, cost, least, most, limits, ..*self }
+    }
+
     /// The linear program of the sheet, whose optimum is the cost of the cheapest feasible recipe.
     pub fn linear_program(&self) -> String {
         let sum = |figures: &[i32]| -> String {
