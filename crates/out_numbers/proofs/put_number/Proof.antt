@@ -4,7 +4,6 @@ use mathlib.Core.Path.{_≡_, refl, sym}
 use mathlib.Core.List.{[]}
 use native.Mathlib.Omega.{arith}
 use borrow.Author.Needs.{needs}
-use lib.ListN.{length}
 use lib.IntN.{pos}
 use Rattle.rules.specs.Listing.{decimal}
 use Rattle.out_numbers.specs.DecimalLength.{length-decimal-pos}
