@@ -237,8 +237,10 @@ fn agreed(name: &str, sheet: &[u8], other: usize) -> usize {
     length
 }
 
-/// The listers agree on a sheet, and on sheets of 1 and of 40 steps that differ from it in one byte.
+/// The listers agree on a sheet, which gives a plan, and on sheets of 1 and of 40 steps that differ from it in a byte.
 fn check(sheet: &Sheet) {
+    let answer = plan(&sheet.bytes(), &mut [0; RECORD_BYTES]);
+    assert!(matches!(answer, Answer::Plan { .. }), "{}: {answer:?}", sheet.name);
     agreed(sheet.name, &sheet.bytes(), 0);
     let mut generator = Generator(5);
     for _ in 0..300 {

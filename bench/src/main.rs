@@ -27,7 +27,7 @@ const PLANNERS: [Planner; 3] = [plan, plain::plan, fixed::plan];
 /// What is timed: a sheet and the length of the record buffer.
 type Case = (Vec<u8>, usize);
 
-/// Nanoseconds for one call: for each case, those of each planner.
+/// Nanoseconds for one call: for each case, those of each of the three.
 pub type Round = Vec<[f64; 3]>;
 
 pub fn median(values: impl Iterator<Item = f64>) -> f64 {

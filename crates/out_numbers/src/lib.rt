@@ -29,7 +29,8 @@ fn set_byte(d: &mut [u8], place: usize, byte: u8)
     }
 }
 
-// A number in decimal. Its digits are worked out from the last one on, and go to their places.
+// A number in decimal. Its digits are worked out from the last one on, and go to their places. Where the text ends past
+// the bytes already, none has a place, and `at` may be too large to add to.
 pub fn put_number(d: &mut [u8], at: usize, v: u64) -> usize
     ensures { λ r. ⌜ Puts (decimal (pos v)) (now (d .entry)) at (now (d .exit)) r ⌝ }
 {

@@ -1,4 +1,4 @@
--- Before each turn v has at least `count` digits, and `power` is the least number of so many.
+-- Before each turn v has at least `count` digits, and `power` is 10^(count − 1).
 use Prim.Native.Nat.{ℕ, _+_, _-_, _*_, _^_, _<_, _≤_}
 use mathlib.Core.Path.{_≡_}
 use native.Mathlib.Nat.{pow-suc}

@@ -8,13 +8,13 @@ use lib.IntN.{pos}
 use Rattle.rules.specs.Listing.{decimal}
 use Rattle.out_numbers.specs.DecimalLength.{length-decimal-pos}
 use Rattle.out_numbers.proofs.Digits.{lastDigits, last-decimal, length-last}
-use Rattle.out_numbers.proofs.LastFirst.{StillToLay, last-stored, none-left, puts-past}
+use Rattle.out_numbers.proofs.LastFirst.{StillToStore, last-stored, none-left, puts-past}
 use Rattle.out_numbers.proofs.put_number.Statement.{statement}
 use Rattle.out_numbers.proofs.put_number.Tie as tie
 
 abbrev Inv-loop : tie.InvT-loop
 Inv-loop d₀ at v end place₀ left₀ d place left =
-    (at ≤ place) × StillToLay (decimal (pos v)) d₀ at (lastDigits (place - at) left) d
+    (at ≤ place) × StillToStore (decimal (pos v)) d₀ at (lastDigits (place - at) left) d
 
 abbrev μ-loop : tie.MeasureT-loop
 μ-loop d₀ at v end place₀ left₀ d place left = place
@@ -41,7 +41,8 @@ loop-again c =
     let at = turn .before .before .before .before .args .at in
     let e : turn .loop .place - at ≡ suc (turn .loop .place - 1 - at) = omega arith in
     let shorter = length-last (turn .loop .place - 1 - at) (turn .loop .left / 10) in
-    (omega arith, last-stored _ (rw e at (turn .loop .inv .1)) (omega (arith, shorter)) (called .set-byte .ensures))
+    let rest = rw e at (turn .loop .inv .1) in
+    (omega arith, last-stored _ rest (omega arith) (omega (arith, shorter)) (called .set-byte .ensures))
 
 -- after the last turn no place is left
 module _ (c : tie.After-loop Inv-loop μ-loop) where
@@ -54,7 +55,7 @@ module _ (c : tie.After-loop Inv-loop μ-loop) where
   abbrev start : tie.Start Inv-loop μ-loop
   start = counted .before .before .before
 
-  none : StillToLay (decimal (pos (start .args .v))) (start .args .d .now) (start .args .at) [] (turn .loop .d)
+  none : StillToStore (decimal (pos (start .args .v))) (start .args .d .now) (start .args .at) [] (turn .loop .d)
   unfolding lastDigits
   none = let e : turn .loop .place - start .args .at ≡ 0 = omega arith in rw e at (turn .loop .inv .1)
 
