@@ -6,12 +6,9 @@
 //! ones plan it too, by the proved planner, and the time of planning, taken in the same round, is subtracted from all.
 use crate::sheets::{Generator, Sheet};
 use crate::{headline_beside, less, line, nanoseconds, Round};
-use batchplan::{plan, Answer, Refusal, RECORD_BYTES};
+use batchplan::{plan, write_listing, Answer, Refusal, LISTING_BYTES, RECORD_BYTES};
 use std::hint::black_box;
 use std::io::{self, Write};
-
-/// A text of this length takes every listing (T8.4).
-const LISTING_BYTES: usize = 4_096;
 
 /// Many short rounds: what slows the machine for a while slows planning and all listers of a round alike, and their
 /// differences stand in the same ratio.
@@ -24,23 +21,7 @@ const TURN: f64 = 5e4;
 type Lister = fn(&[u8], &mut [u8]) -> usize;
 
 /// The proved lister first, then the two that it is compared with.
-const LISTERS: [Lister; 3] = [proved, formatted, paired];
-
-// Declared as in library/include/batchplan.h: the crate's own `listing` makes its text anew at every call.
-extern "C" {
-    fn batchplan_listing(
-        sheet: *const u8,
-        sheet_bytes: usize,
-        text: *mut u8,
-        text_bytes: usize,
-    ) -> usize;
-}
-
-fn proved(sheet: &[u8], text: &mut [u8]) -> usize {
-    // SAFETY: each pointer and length is that of a Rust slice. `text` can be written, and does not overlap `sheet`,
-    // because it is borrowed mutably.
-    unsafe { batchplan_listing(sheet.as_ptr(), sheet.len(), text.as_mut_ptr(), text.len()) }
-}
+const LISTERS: [Lister; 3] = [write_listing, formatted, paired];
 
 /// What a listing says of a plan, found in its record (T6.1).
 struct Figures<'a> {
@@ -228,7 +209,7 @@ fn outcome(lister: Lister, sheet: &[u8], room: usize) -> (usize, Vec<u8>) {
 /// The listing's length. Ends the run where two listers differ on the sheet: in a text that takes every listing, one
 /// that just takes this, one that is a byte shorter, or one of another length.
 fn agreed(name: &str, sheet: &[u8], other: usize) -> usize {
-    let length = proved(sheet, &mut [0; LISTING_BYTES]);
+    let length = write_listing(sheet, &mut [0; LISTING_BYTES]);
     for room in [LISTING_BYTES, length, length.saturating_sub(1), other] {
         let first = outcome(LISTERS[0], sheet, room);
         let same = LISTERS.iter().all(|&lister| outcome(lister, sheet, room) == first);

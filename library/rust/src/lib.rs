@@ -63,8 +63,8 @@ pub const SHEET_BYTES: usize = 3852;
 /// The length of the longest record. A buffer of this length takes every record, so that no sheet is refused with 8.
 pub const RECORD_BYTES: usize = 342;
 
-/// A buffer of this length takes every listing.
-const LISTING_BYTES: usize = 4096;
+/// A text buffer of this length takes every listing.
+pub const LISTING_BYTES: usize = 4096;
 
 // Declared as in library/include/batchplan.h.
 extern "C" {
@@ -176,7 +176,9 @@ impl fmt::Display for Cause {
     fn fmt(&self, f: &mut fmt::Formatter) -> fmt::Result {
         f.write_str(match self {
             Cause::Short => "the sheet has under 12 bytes",
-            Cause::Dimensions => "n, m or the count of entries is outside its range, or an array's length is wrong",
+            Cause::Dimensions => {
+                "n, m or the count of entries is outside its range, or an array's length is wrong"
+            }
             Cause::Length => "the sheet's length does not fit its count of entries",
             Cause::Parameters => "p, D or k is outside its range",
             Cause::Key => "an entry's key names no figure or is out of order",
@@ -247,14 +249,19 @@ pub fn plan(sheet: &[u8], record: &mut [u8]) -> Answer {
     }
 }
 
+/// Writes the listing of a sheet to the start of a text buffer, and gives its length. The bytes after it are as they
+/// were. Where the listing is longer than the buffer, the length is 0 and every byte is as it was; no listing is empty.
+pub fn write_listing(sheet: &[u8], text: &mut [u8]) -> usize {
+    // SAFETY: each pointer and length is that of a Rust slice. `text` can be written, and does not overlap `sheet`,
+    // because it is borrowed mutably.
+    unsafe { batchplan_listing(sheet.as_ptr(), sheet.len(), text.as_mut_ptr(), text.len()) }
+}
+
 /// The listing of a sheet, as the program batchplan prints it: the lines of the plan, or the one of a refusal, which is
-/// `refused` with number and place.
+/// `refused` with number and place. [`write_listing`] does the same in a buffer that is lent.
 pub fn listing(sheet: &[u8]) -> String {
     let mut text = vec![0; LISTING_BYTES];
-    // SAFETY: each pointer and length is that of a Rust slice; `text` can be written, and is this function's own, so
-    // that it does not overlap `sheet`.
-    let length =
-        unsafe { batchplan_listing(sheet.as_ptr(), sheet.len(), text.as_mut_ptr(), text.len()) };
+    let length = write_listing(sheet, &mut text);
     text.truncate(length);
     String::from_utf8(text).expect("a listing is ASCII")
 }

@@ -2,7 +2,9 @@
 //! buffers of many lengths, on noise.
 mod common;
 
-use batchplan::{listing, plan, Answer, Cause, Limit, Plan, Refusal, RECORD_BYTES, SHEET_BYTES};
+use batchplan::{
+    listing, plan, write_listing, Answer, Cause, Limit, Plan, Refusal, RECORD_BYTES, SHEET_BYTES,
+};
 use common::{filled, sheet, Generator, C1};
 
 /// C1, with a step count.
@@ -186,6 +188,24 @@ fn worked_sheets() {
         assert_eq!(Plan::of_sheet(&sheet), expected, "{name}");
         assert_eq!(listing(&sheet), text_of(&expected), "{name}");
         tried(&sheet, RECORD_BYTES);
+    }
+}
+
+/// A text buffer that just takes the listing, is longer, is a byte too short, or is empty.
+#[test]
+fn listings_in_lent_buffers() {
+    for sheet in [c1(4), c3(2), vec![]] {
+        let whole = listing(&sheet).into_bytes();
+        for room in [whole.len(), whole.len() + 9, whole.len() - 1, 0] {
+            let mut text = vec![0xa5; room];
+            let length = write_listing(&sheet, &mut text);
+            let mut expected = vec![0xa5; room];
+            if whole.len() <= room {
+                expected[..whole.len()].copy_from_slice(&whole);
+            }
+            assert_eq!(text, expected);
+            assert_eq!(length, if whole.len() <= room { whole.len() } else { 0 });
+        }
     }
 }
 

@@ -1,11 +1,13 @@
 -- Before each turn the places from `at` to `place` are still to take the last digits of `left`, one each.
-use Prim.Native.Nat.{suc, _+_, _-_, _/_, _≤_}
+use Prim.Native.Nat.{ℕ, suc, min, _+_, _-_, _/_, _≤_}
 use mathlib.Core.Path.{_≡_, refl, sym}
 use mathlib.Core.List.{[]}
 use native.Mathlib.Omega.{arith}
 use borrow.Author.Needs.{needs}
+use lib.ListN.{length}
 use lib.IntN.{pos}
 use Rattle.rules.specs.Listing.{decimal}
+use Rattle.out_text.specs.Text.{Puts}
 use Rattle.out_numbers.specs.DecimalLength.{length-decimal-pos}
 use Rattle.out_numbers.proofs.Digits.{lastDigits, last-decimal, length-last}
 use Rattle.out_numbers.proofs.LastFirst.{StillToStore, last-stored, none-left, puts-past}
@@ -59,15 +61,16 @@ module _ (c : tie.After-loop Inv-loop μ-loop) where
   unfolding lastDigits
   none = let e : turn .loop .place - start .args .at ≡ 0 = omega arith in rw e at (turn .loop .inv .1)
 
+  -- so that the text ends after the digits, or where the bytes do
+  ends : {r : ℕ} → r ≡ min (start .args .at + counted .places .result) (length (turn .loop .d))
+      → Puts (decimal (pos (start .args .v))) (start .args .d .now) (start .args .at) (turn .loop .d) r
+  ends e = none-left none (omega arith) (omega (arith, none .length-is, counted .places .ensures))
+
 returns-2 : tie.Need-returns-2 Inv-loop μ-loop
-returns-2 c =
-    let n = none (c .before) in
-    none-left n (omega arith) (omega (arith, n .length-is, counted (c .before) .places .ensures))
+returns-2 c = ends (c .before) (omega arith)
 
 returns-3 : tie.Need-returns-3 Inv-loop μ-loop
-returns-3 c =
-    let n = none (c .before) in
-    none-left n (omega arith) (omega (arith, n .length-is, counted (c .before) .places .ensures))
+returns-3 c = ends (c .before) (omega arith)
 
 pub put-number-spec : {M : Type 1} → statement M
 put-number-spec =
