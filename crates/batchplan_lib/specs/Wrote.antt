@@ -4,7 +4,7 @@ use Rattle.std.proofs.Common.{ap, ◌∙◌}
 use Rattle.std.proofs.Math.Option.{Option}
 use Rattle.rules.specs.declared.Output.{Output}
 use Rattle.rules.specs.Refusals.{Numbered}
-use Rattle.rules.specs.Output.{Writing, wrote, refused, writing, writingOf, lentAfter, Writes}
+use Rattle.rules.specs.Output.{Writing, wrote, refused, writing, writing_of, lent_after, Writes}
 use Rattle.batchplan_lib.specs.declared.Pair.{Pair}
 
 -- TASK.md, T10.6, T10.7: bytes that are written have the number 0 and their length; a refusal has its number and its
@@ -17,9 +17,9 @@ pair_of (refused r) = record { number = r.number; beside = r.place }
 -- numbers that the caller gets.
 pub record Wrote (bytes : List ℕ) (refusal : Option Numbered) (lent after : List ℕ) (number beside : ℕ) : Type 0 where
   -- T13.5, T14.6: the numbers are those of what the rules say of writing them
-  pub numbers : record { number = number; beside = beside } ≡ pair_of (writingOf bytes refusal)
+  pub numbers : record { number = number; beside = beside } ≡ pair_of (writing_of bytes refusal)
   -- T13.6, T14.6: the buffer holds the bytes and then the rest as lent; after a refusal every byte is as lent
-  pub buffer : after ≡ lentAfter bytes lent (writingOf bytes refusal)
+  pub buffer : after ≡ lent_after bytes lent (writing_of bytes refusal)
 
 -- it is what the writer's answer gives
 pub wrote_of : {bytes : List ℕ} {refusal : Option Numbered} {lent after : List ℕ} {result : Output}
@@ -28,5 +28,5 @@ pub wrote_of : {bytes : List ℕ} {refusal : Option Numbered} {lent after : List
     → Wrote bytes refusal lent after number beside
 wrote_of {bytes} {refusal} {lent} w pair = record {
   numbers = pair ∙ ap pair_of w.answered;
-  buffer = w.buffer ∙ ap (lentAfter bytes lent) w.answered;
+  buffer = w.buffer ∙ ap (lent_after bytes lent) w.answered;
 }

@@ -2,14 +2,14 @@
 // `library/include/batchplan.h` declares it for C.
 ghost use Rattle.std.specs.Prelude.{◌≤◌, ◌≡◌, length};
 ghost use Rattle.rules.specs.Sheet.{sized};
-ghost use Rattle.rules.specs.Record.{longestRecord};
+ghost use Rattle.rules.specs.Record.{longest_record};
 ghost use Rattle.rules.specs.Answers.{outcome};
 ghost use Rattle.rules.specs.Listing.{listing, Listed};
 ghost use Rattle.rules.specs.Output.{writing};
 ghost use Rattle.rules.specs.Version.{version};
-ghost use Rattle.rules_arrays.specs.Arrays.{arrays, sheetFrom, writeRefusal};
-ghost use Rattle.rules_mps.specs.Mps.{mpsOf, mpsRefusal};
-ghost use Rattle.batchplan_lib.specs.Called.{numbersOf, Called};
+ghost use Rattle.rules_arrays.specs.Arrays.{arrays, sheet_from, write_refusal};
+ghost use Rattle.rules_mps.specs.Mps.{mps_of, mps_refusal};
+ghost use Rattle.batchplan_lib.specs.Called.{numbers_of, Called};
 ghost use Rattle.batchplan_lib.specs.Wrote.{pair_of, Wrote};
 
 use out_layout::LONGEST;
@@ -35,7 +35,7 @@ struct Numbers {
 
 // The numbers of an answer. Those that it does not have are 0.
 fn numbers_of(answer: Answer) -> Numbers
-    ensures { result ≡ numbersOf (outcome answer) }
+    ensures { result ≡ numbers_of (outcome answer) }
 {
     match answer {
         Answer::Plan { low, gap } => Numbers {
@@ -111,8 +111,8 @@ pub extern "C" fn batchplan_plan(
 // bytes (T8.4). The buffer takes every record, so that refusal 8 is never listed (T10.2).
 #[unsafe(no_mangle)]
 pub extern "C" fn batchplan_listing(sheet: &[u8], text: &mut [u8]) -> usize
-    ensures listed { Listed (listing sheet.now longestRecord) text.old text.new result }
-    ensures longest_record_len_bound { length (listing sheet.now longestRecord) ≤ 4096 }
+    ensures listed { Listed (listing sheet.now longest_record) text.old text.new result }
+    ensures longest_record_len_bound { length (listing sheet.now longest_record) ≤ 4096 }
 {
     let mut record = [0u8; LONGEST];
     let answer = plan(sheet, &mut record);
@@ -139,9 +139,9 @@ pub extern "C" fn batchplan_write_sheet(
     length_or_place: &mut usize,
 ) -> usize
     ensures { Wrote
-        (sheetFrom (sized n m p d k) (arrays cost.now least.now most.now
+        (sheet_from (sized n m p d k) (arrays cost.now least.now most.now
         a.now b.now start.now))
-        (writeRefusal (sized n m p d k) (arrays cost.now least.now most.now
+        (write_refusal (sized n m p d k) (arrays cost.now least.now most.now
         a.now b.now start.now) (length sheet.old))
         sheet.old sheet.new result length_or_place.new }
 {
@@ -166,8 +166,8 @@ pub extern "C" fn batchplan_write_sheet(
 // the buffer as it was.
 #[unsafe(no_mangle)]
 pub extern "C" fn batchplan_mps(sheet: &[u8], text: &mut [u8], length_or_place: &mut usize) -> usize
-    ensures { Wrote (mpsOf sheet.now)
-        (mpsRefusal sheet.now (length text.old))
+    ensures { Wrote (mps_of sheet.now)
+        (mps_refusal sheet.now (length text.old))
         text.old text.new result length_or_place.new }
 {
     let output = write_mps(sheet, text);

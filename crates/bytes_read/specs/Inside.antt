@@ -1,6 +1,6 @@
 -- A number of w bytes at place o of s: what reading it asks and gives.
 use Rattle.std.specs.Prelude.{ℕ, ◌+◌, ◌^◌, ◌<◌, ◌≤◌, ◌≡◌, List, length}
-use Rattle.rules.specs.Bytes.{unsignedAt}
+use Rattle.rules.specs.Bytes.{unsigned_at}
 
 -- a number has 1 to 8 bytes
 pub record Width (w : ℕ) : Type 0 where
@@ -14,7 +14,7 @@ pub record Inside (w : ℕ) (s : List ℕ) (o : ℕ) : Type 0 where
 
 -- r is the unsigned number in w bytes, and so below 256^w
 pub record ReadUnsigned (w : ℕ) (s : List ℕ) (o r : ℕ) : Type 0 where
-  pub is : r ≡ unsignedAt w s o
+  pub is : r ≡ unsigned_at w s o
   pub small : r < 256 ^ w
 
 -- v is a number of w bytes

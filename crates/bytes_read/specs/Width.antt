@@ -6,17 +6,17 @@ use Rattle.std.proofs.Math.Nat.{pow-succ', pow-le-pow_right, one-le-pow}
 use native.Mathlib.Omega.{arith}
 use Rattle.std.specs.Int.Signed.{mag}
 use Rattle.std.specs.Int.{w8}
-use Rattle.rules.specs.Bytes.{unsignedAt, signed_of}
+use Rattle.rules.specs.Bytes.{unsigned_at, signed_of}
 use Rattle.bytes_read.specs.Inside.{Width}
 
 -- the number from place a + o on is the one from place o on, once a bytes are dropped
-unsigned-drop : (w : ℕ) (s : List ℕ) (a o : ℕ) → unsignedAt w s (a + o) ≡ unsignedAt w (drop a s) o
-unfolding unsignedAt
+unsigned-drop : (w : ℕ) (s : List ℕ) (a o : ℕ) → unsigned_at w s (a + o) ≡ unsigned_at w (drop a s) o
+unfolding unsigned_at
 unsigned-drop zero s a o = refl
 unsigned-drop (suc w) s a o = rw (add_assoc, unsigned-drop w s a (o + 1), get_or-drop)
 
 -- so the number from place a on is the one at the start of what follows a bytes
-pub unsigned-start : (w : ℕ) (s : List ℕ) (a : ℕ) → unsignedAt w s a ≡ unsignedAt w (drop a s) 0
+pub unsigned-start : (w : ℕ) (s : List ℕ) (a : ℕ) → unsigned_at w s a ≡ unsigned_at w (drop a s) 0
 unsigned-start w s a = rw add-zero at (unsigned-drop w s a 0)
 
 -- in the lower half a number stands for itself
@@ -35,8 +35,8 @@ signed-upper w v h l = rw (le-ltb v (256 ^ w / 2) h, less v (256 ^ w) l)
 
 -- a number in w bytes is below 256^w, where the bytes are below 256
 module _ (s : List ℕ) (bytes : (i : ℕ) → Fits w8 (get_or s i 0)) where
-  pub unsigned-below : (w o : ℕ) → unsignedAt w s o < 256 ^ w
-  unfolding unsignedAt
+  pub unsigned-below : (w o : ℕ) → unsigned_at w s o < 256 ^ w
+  unfolding unsigned_at
   unsigned-below zero o = omega arith
   unsigned-below (suc w) o = rw (pow-succ' 256 w) (omega (arith, bytes o, unsigned-below w (o + 1)))
 

@@ -1,6 +1,6 @@
 // Little-endian numbers out of a slice of bytes.
 ghost use Rattle.std.specs.Prelude.{◌≡◌, ◌/◌, ◌^◌};
-ghost use Rattle.rules.specs.Bytes.{signed_of, signedAt};
+ghost use Rattle.rules.specs.Bytes.{signed_of, signed_at};
 ghost use Rattle.bytes_read.specs.Inside.{Width, Inside, ReadUnsigned, InWidth};
 
 // Half of the numbers that 0 to 8 bytes have: those from it on are negative.
@@ -54,7 +54,7 @@ fn signed_of(v: u64, width: usize) -> i64
 // The signed number in the `width` bytes from place `at` on.
 pub fn signed_at(s: &[u8], at: usize, width: usize) -> i64
     requires { Inside width s.now at }
-    ensures { result ≡ signedAt width s.now at }
+    ensures { result ≡ signed_at width s.now at }
 {
     signed_of(unsigned_at(s, at, width), width)
 }
@@ -62,7 +62,7 @@ pub fn signed_at(s: &[u8], at: usize, width: usize) -> i64
 // The signed number in the 4 bytes from place `at` on, in 32 bits.
 pub fn signed_32(s: &[u8], at: usize) -> i32
     requires { Inside 4 s.now at }
-    ensures { result ≡ signedAt 4 s.now at }
+    ensures { result ≡ signed_at 4 s.now at }
 {
     signed_at(s, at, 4) as i32
 }

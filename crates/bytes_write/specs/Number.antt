@@ -2,7 +2,7 @@
 use Rattle.std.specs.Prelude.{◌≡◌, refl, List, [], ◌∷◌, ℕ, zero, suc, ◌+◌, ◌-◌, ◌*◌, ◌/◌, ◌^◌, ◌≤◌, ◌<◌, ℤ, pos, negsuc, length}
 use Rattle.std.proofs.Common.{sym, ap, mul-zero, mul-suc, arith, length-append}
 use Rattle.std.specs.Int.Signed.{mag}
-use Rattle.rules.specs.Bytes.{unsignedBytes, signedBytes, laid}
+use Rattle.rules.specs.Bytes.{unsigned_bytes, signed_bytes, laid}
 use Rattle.rules.specs.Record.{fields}
 
 -- an unsigned number asks for room
@@ -22,13 +22,13 @@ bits64 (pos v) = v
 bits64 (negsuc v) = 2 ^ 64 - suc v
 
 -- a number of w bytes has w bytes
-pub length-unsigned : (w v : ℕ) → length (unsignedBytes w v) ≡ w
-unfolding unsignedBytes
+pub length-unsigned : (w v : ℕ) → length (unsigned_bytes w v) ≡ w
+unfolding unsigned_bytes
 length-unsigned zero v = refl
 length-unsigned (suc w) v = ap suc (length-unsigned w (v / 256))
 
-pub length-signed : (w : ℕ) (v : ℤ) → length (signedBytes w v) ≡ w
-unfolding signedBytes
+pub length-signed : (w : ℕ) (v : ℤ) → length (signed_bytes w v) ≡ w
+unfolding signed_bytes
 length-signed w (pos v) = length-unsigned w v
 length-signed w (negsuc v) = length-unsigned w (256 ^ w - suc v)
 

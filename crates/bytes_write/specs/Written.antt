@@ -7,8 +7,8 @@ unfoldable pub written : List ℕ → List ℕ → List ℕ
 written bytes d = bytes ++ drop (length bytes) d
 
 -- the bytes from place a of d on, and all else of d as it was
-unfoldable pub writtenAt : ℕ → List ℕ → List ℕ → List ℕ
-writtenAt a bytes d = take a d ++ written bytes (drop a d)
+unfoldable pub written_at : ℕ → List ℕ → List ℕ → List ℕ
+written_at a bytes d = take a d ++ written bytes (drop a d)
 
 -- no byte is written
 pub written_none : (d : List ℕ) → d ≡ written [] d
@@ -36,8 +36,8 @@ filled-to e f = record { is = f.is; long = f.long ∙ sym e }
 
 -- w bytes are written at the place after `front`: they follow it
 pub fill : {d₀ front d d' : List ℕ} {a w : ℕ} (bytes : List ℕ) → Filled d₀ front a d → length bytes ≡ w
-    → d' ≡ writtenAt a bytes d → Filled d₀ (front ++ bytes) (a + w) d'
-unfolding written writtenAt
+    → d' ≡ written_at a bytes d → Filled d₀ (front ++ bytes) (a + w) d'
+unfolding written written_at
 fill {d₀} {front} {d} {a = a} bytes f l h =
     let rest = drop (length front) d₀ in
     let head : take a d ≡ front = ap (take a) f.is ∙ take_at front rest a f.long in
@@ -48,18 +48,18 @@ fill {d₀} {front} {d} {a = a} bytes f l h =
     }
 
 -- the part of d that `&mut d[a..]` lends
-abbrev pub lentPart : List ℕ → ℕ → List ℕ
-lentPart d a = take (length d - a) (drop a d)
+abbrev pub lent_part : List ℕ → ℕ → List ℕ
+lent_part d a = take (length d - a) (drop a d)
 
 -- d, once that part came back as `part`
-abbrev pub partReturned : List ℕ → ℕ → List ℕ → List ℕ
-partReturned d a part = take a d ++ (part ++ drop (length d - a) (drop a d))
+abbrev pub part_returned : List ℕ → ℕ → List ℕ → List ℕ
+part_returned d a part = take a d ++ (part ++ drop (length d - a) (drop a d))
 
 -- the part after `front` was lent, and came back with w bytes at its start: they follow `front`
 pub extend : {d₀ front d part : List ℕ} {a w : ℕ} (bytes : List ℕ) → Filled d₀ front a d → length bytes ≡ w
-    → part ≡ written bytes (lentPart d a) → Filled d₀ (front ++ bytes) (a + w) (partReturned d a part)
-unfolding writtenAt
+    → part ≡ written bytes (lent_part d a) → Filled d₀ (front ++ bytes) (a + w) (part_returned d a part)
+unfolding written_at
 extend {d₀} {front} {d} {part} {a} {w} bytes f l h =
     let past : drop (length d - a) (drop a d) ≡ [] = drop_of_length-le (drop a d) (le_of_eq (length-drop a d)) in
-    let all : lentPart d a ≡ drop a d = take_all (length d - a) (drop a d) (le_of_eq (length-drop a d)) in
+    let all : lent_part d a ≡ drop a d = take_all (length d - a) (drop a d) (le_of_eq (length-drop a d)) in
     fill bytes f l (simp (past, append-nil, h, all))

@@ -1,13 +1,13 @@
 // Numbers into a lent buffer, little-endian.
 ghost use Rattle.std.specs.Prelude.{◌≡◌};
-ghost use Rattle.rules.specs.Bytes.{unsignedBytes, signedBytes};
-ghost use Rattle.bytes_write.specs.Written.{writtenAt};
+ghost use Rattle.rules.specs.Bytes.{unsigned_bytes, signed_bytes};
+ghost use Rattle.bytes_write.specs.Written.{written_at};
 ghost use Rattle.bytes_write.specs.Number.{Room, SignedRoom, bits64};
 
 // The unsigned number v in the `width` bytes of d from place `at` on.
 pub fn put_unsigned(d: &mut [u8], at: usize, width: usize, v: u64)
     requires { Room at width d.old }
-    ensures { d.new ≡ writtenAt at (unsignedBytes width v) d.old }
+    ensures { d.new ≡ written_at at (unsigned_bytes width v) d.old }
 {
     let mut rest = v;
     let mut i: usize = 0;
@@ -32,7 +32,7 @@ fn bits(v: i64) -> u64
 // The signed number v in the `width` bytes of d from place `at` on, in two's complement.
 pub fn put_signed(d: &mut [u8], at: usize, width: usize, v: i64)
     requires { SignedRoom at width v d.old }
-    ensures { d.new ≡ writtenAt at (signedBytes width v) d.old }
+    ensures { d.new ≡ written_at at (signed_bytes width v) d.old }
 {
     put_unsigned(d, at, width, bits(v));
 }

@@ -2,7 +2,7 @@
 use Rattle.std.specs.Prelude.{ℕ, ◌+◌, ◌<◌, ◌≤◌, ◌≡◌, refl, Bool, true, false, cond, List, leb, length}
 use Rattle.std.proofs.Common.{arith, leb-true, le-leb}
 use Rattle.std.proofs.lemmas.Bool.{lt-leb}
-use Rattle.rules.specs.Bytes.{unsignedAt}
+use Rattle.rules.specs.Bytes.{unsigned_at}
 use Rattle.gate_frames.specs.declared.Frame.{Frame}
 use Rattle.gate_frames.specs.declared.Frame.TheVariants.{Sheet, End}
 
@@ -10,18 +10,18 @@ use Rattle.gate_frames.specs.declared.Frame.TheVariants.{Sheet, End}
 unfoldable pub frame_at : List ℕ → ℕ → ℕ → Frame
 frame_at input at after =
     let start = at + 2 in
-    let end = start + unsignedAt 2 input at in
+    let end = start + unsigned_at 2 input at in
     cond (leb (end + after) (length input)) (Sheet start end) End
 
 module _ (input : List ℕ) (at after : ℕ) where
   -- a frame that is cut short
-  pub frame-cut : length input < at + 2 + unsignedAt 2 input at + after → frame_at input at after ≡ End
+  pub frame-cut : length input < at + 2 + unsigned_at 2 input at + after → frame_at input at after ≡ End
   unfolding frame_at
   frame-cut short = rw (lt-leb _ _ short)
 
   -- a whole frame
-  pub frame-whole : at + 2 + unsignedAt 2 input at + after ≤ length input
-      → frame_at input at after ≡ Sheet (at + 2) (at + 2 + unsignedAt 2 input at)
+  pub frame-whole : at + 2 + unsigned_at 2 input at + after ≤ length input
+      → frame_at input at after ≡ Sheet (at + 2) (at + 2 + unsigned_at 2 input at)
   unfolding frame_at
   frame-whole whole = rw (le-leb _ _ whole)
 
@@ -37,7 +37,7 @@ unfolding frame_at
 sheet-lies input at after {start} {end} found = by-test (leb (last + after) (length input)) refl found
   where
     last : ℕ
-    last = at + 2 + unsignedAt 2 input at
+    last = at + 2 + unsigned_at 2 input at
 
     by-test : (b : Bool) → leb (last + after) (length input) ≡ b → cond b (Sheet (at + 2) last) End ≡ Sheet start end
         → SheetLies input at after start end

@@ -7,10 +7,10 @@ use Rattle.rules.specs.Record.{fields}
 use Rattle.bytes_write.specs.Number.{length_fields}
 
 -- the bytes of the first n figures, w of each
-abbrev pub firstFields : ℕ → ℕ → List ℤ → List ℕ
-firstFields w n figures = fields w (tabulate n (at figures))
+abbrev pub first_fields : ℕ → ℕ → List ℤ → List ℕ
+first_fields w n figures = fields w (tabulate n (at figures))
 
-pub length-first : (w n : ℕ) (figures : List ℤ) → length (firstFields w n figures) ≡ w * n
+pub length-first : (w n : ℕ) (figures : List ℤ) → length (first_fields w n figures) ≡ w * n
 length-first w n figures =
     length_fields w (tabulate n (at figures)) ∙ ap (λ (k : ℕ). w * k) (length-tabulate n (at figures))
 

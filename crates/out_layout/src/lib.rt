@@ -1,7 +1,7 @@
 // Where the record has its fields (T6.1): each begins where the one before ends.
 // A change of places is made here and in `rules`.
 ghost use Rattle.std.specs.Prelude.{◌≡◌, ◌≤◌};
-ghost use Rattle.rules.specs.Record.{multipliersAt, totalsAt, recordLength};
+ghost use Rattle.rules.specs.Record.{multipliers_at, totals_at, record_length};
 ghost use Rattle.out_layout.specs.RecordSizes.{RecordSizes};
 
 // n is at place 0, in 2 bytes; m, also in 2:
@@ -25,7 +25,7 @@ pub const LONGEST: usize = SUMS_AT + 4 * 32 + 4 * 16 + 8 * 16;
 // The multipliers come after n sums, in 4 bytes each.
 pub fn multipliers_at(n: usize) -> usize
     requires { n ≤ 32 }
-    ensures { result ≡ multipliersAt n }
+    ensures { result ≡ multipliers_at n }
 {
     SUMS_AT + 4 * n
 }
@@ -33,7 +33,7 @@ pub fn multipliers_at(n: usize) -> usize
 // The residual totals come after m multipliers, in 8 bytes each.
 pub fn totals_at(n: usize, m: usize) -> usize
     requires { RecordSizes n m }
-    ensures { result ≡ totalsAt n m }
+    ensures { result ≡ totals_at n m }
 {
     multipliers_at(n) + 4 * m
 }
@@ -41,7 +41,7 @@ pub fn totals_at(n: usize, m: usize) -> usize
 // The record ends after m residual totals.
 pub fn record_length(n: usize, m: usize) -> usize
     requires { RecordSizes n m }
-    ensures { result ≡ recordLength n m }
+    ensures { result ≡ record_length n m }
 {
     totals_at(n, m) + 8 * m
 }

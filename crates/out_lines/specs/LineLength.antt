@@ -5,7 +5,7 @@ use Rattle.std.proofs.Math.Nat.{le_step}
 use Rattle.std.proofs.Common.{lt-suc_self, mul-suc, arith, length-append, SFits}
 use Rattle.std.specs.Int.{w64}
 use Rattle.rules.specs.Refusals.{Numbered}
-use Rattle.rules.specs.Listing.{text, decimal, spaced, line, lines, refusalText}
+use Rattle.rules.specs.Listing.{text, decimal, spaced, line, lines, refusal_text}
 use Rattle.out_numbers.specs.DecimalLength.{length-decimal}
 
 -- every figure of a line is a number of 64 bits
@@ -36,6 +36,6 @@ length-lines b (suc n) f h =
 -- the line of a refusal, where number and place have at most 20 digits
 pub length-refusal-text : (r : Numbered)
     → length (decimal (pos r.number)) ≤ 20 → length (decimal (pos r.place)) ≤ 20
-    → length (refusalText r) ≤ 4096
-unfolding refusalText line spaced text
+    → length (refusal_text r) ≤ 4096
+unfolding refusal_text line spaced text
 length-refusal-text r number place = simp length-append (omega (arith, number, place))

@@ -1,7 +1,7 @@
 -- A line by its word's bytes, and a text from place 0 on.
 use Rattle.std.specs.Prelude.{ℕ, ◌+◌, ◌≤◌, ◌<◌, ◌≡◌, refl, List, [], ◌∷◌, ◌++◌, length, take, get_or, ℤ, pos}
 use Rattle.std.proofs.Common.{sym, ap, subst, ◌∙◌, append_assoc, append-nil, add-one, take-suc}
-use Rattle.rules.specs.Listing.{text, decimal, spaced, line, refusalText}
+use Rattle.rules.specs.Listing.{text, decimal, spaced, line, refusal_text}
 use Rattle.out_text.specs.Text.{Puts}
 
 -- a line of a word that is given by its bytes
@@ -38,8 +38,8 @@ spaced-next zs i z h =
 -- the parts of a refusal's line, one after the other
 pub refusal-line : (number place : ℕ)
     → text "refused" ++ (text " " ++ decimal (pos number)) ++ (text " " ++ decimal (pos place)) ++ text "\n"
-    ≡ refusalText (record { number = number; place = place })
-unfolding refusalText line spaced text decimal
+    ≡ refusal_text (record { number = number; place = place })
+unfolding refusal_text line spaced text decimal
 refusal-line number place =
     let second : List ℕ = text " " ++ decimal (pos place) in
     let first : List ℕ = text " " ++ decimal (pos number) in

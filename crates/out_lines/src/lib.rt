@@ -2,7 +2,7 @@
 // Each function puts something at the end of a text, place `at`, and answers the place after it.
 ghost use Rattle.std.specs.Prelude.{◌++◌, ◌≤◌, pos, length};
 ghost use Rattle.rules.specs.Refusals.{numbered};
-ghost use Rattle.rules.specs.Listing.{text as ascii, decimal, spaced, refusalText};
+ghost use Rattle.rules.specs.Listing.{text as ascii, decimal, spaced, refusal_text};
 ghost use Rattle.out_text.specs.Text.{Puts};
 ghost use Rattle.out_lines.specs.Lines.{line_of, Begins};
 
@@ -52,7 +52,7 @@ fn put_size(d: &mut [u8], at: usize, v: usize) -> usize
 
 // The line of a refusal, as the whole of a text.
 pub fn put_refusal(d: &mut [u8], refusal: Refusal) -> usize
-    ensures { Begins (refusalText (numbered refusal)) d.old d.new result }
+    ensures { Begins (refusal_text (numbered refusal)) d.old d.new result }
 {
     let cause = refusal.cause;
     let named = put_bytes(d, 0, b"refused");

@@ -5,13 +5,13 @@ use Rattle.std.proofs.Common.{ap, ◌∙◌}
 use Rattle.std.proofs.Math.Option.{Option, none, some}
 use Rattle.std.proofs.Math.ListN.{drop}
 use Rattle.rules.specs.declared.Answer.{Answer}
-use Rattle.rules.specs.Sheet.{sheetOf}
-use Rattle.rules.specs.Run.{Plan, planAfter}
-use Rattle.rules.specs.Record.{recordLength}
-use Rattle.rules.specs.Refusals.{Numbered, layoutRefusal}
-use Rattle.rules.specs.Answers.{plan_of, planRefusal, refusal, outcome, outcomeOf}
-use Rattle.rules.specs.Answers.{answerTo, answer, bufferOf, bufferAfter}
-use Rattle.rules.specs.Listing.{text_of, textFrom, listing}
+use Rattle.rules.specs.Sheet.{sheet_of}
+use Rattle.rules.specs.Run.{Plan, plan_after}
+use Rattle.rules.specs.Record.{record_length}
+use Rattle.rules.specs.Refusals.{Numbered, layout_refusal}
+use Rattle.rules.specs.Answers.{plan_of, plan_refusal, refusal, outcome, outcome_of}
+use Rattle.rules.specs.Answers.{answer_to, answer, buffer_of, buffer_after}
+use Rattle.rules.specs.Listing.{text_of, text_from, listing}
 use Rattle.rules.specs.Promise.{Promise}
 use Rattle.proof_laws.specs.NotRefused.{otherwise-none}
 use Rattle.proof_magnitudes.specs.Accepted.{accepted}
@@ -21,29 +21,29 @@ use Rattle.out_record.specs.RoundTrip.{round_trip, holds-record}
 
 module _ (s lent : List ℕ) where
   abbrev p : Plan
-  p = plan_of (sheetOf s)
+  p = plan_of (sheet_of s)
 
   -- where a refusal is met, and where none is
-  by : (met : Option Numbered) → refusal (sheetOf s) (layoutRefusal s) (length lent) ≡ met
-      → textFrom (outcomeOf p met) (bufferOf p lent (outcomeOf p met)) ≡ text_of p (outcomeOf p met)
-  unfolding refusal planRefusal planAfter plan_of outcomeOf bufferOf textFrom text_of
+  by : (met : Option Numbered) → refusal (sheet_of s) (layout_refusal s) (length lent) ≡ met
+      → text_from (outcome_of p met) (buffer_of p lent (outcome_of p met)) ≡ text_of p (outcome_of p met)
+  unfolding refusal plan_refusal plan_after plan_of outcome_of buffer_of text_from text_of
   by (some r) e = refl
   by none e =
       let (layout, later) = otherwise-none _ _ e in
       let a = accepted s layout in
       let fits = plan-fits a (otherwise-none _ _ later).1 in
-      let rest = drop (recordLength p.materials p.limits) lent in
+      let rest = drop (record_length p.materials p.limits) lent in
       let sizes : RecordSizes p.materials p.limits =
       record { materials = a.materials-few; limits = a.limits-few } in
       rw (holds-record fits sizes rest, round_trip fits rest)
 
   -- the law for every sheet and every buffer
-  pub listing-of-record : textFrom (answer s (length lent)) (bufferAfter s lent) ≡ listing s (length lent)
-  unfolding answer answerTo bufferAfter listing
-  listing-of-record = by (refusal (sheetOf s) (layoutRefusal s) (length lent)) refl
+  pub listing-of-record : text_from (answer s (length lent)) (buffer_after s lent) ≡ listing s (length lent)
+  unfolding answer answer_to buffer_after listing
+  listing-of-record = by (refusal (sheet_of s) (layout_refusal s) (length lent)) refl
 
 -- What a planned sheet's answer and record say is the listing of the sheet.
 pub listing-is : {s lent after : List ℕ} {result : Answer} {room : ℕ} → Promise s lent after result
-    → length lent ≡ room → textFrom (outcome result) after ≡ listing s room
+    → length lent ≡ room → text_from (outcome result) after ≡ listing s room
 listing-is {s} {lent} p long =
-    (λ k. textFrom (p.answered k) (p.buffer k)) ∙ listing-of-record s lent ∙ ap (listing s) long
+    (λ k. text_from (p.answered k) (p.buffer k)) ∙ listing-of-record s lent ∙ ap (listing s) long

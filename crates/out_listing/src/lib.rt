@@ -1,7 +1,7 @@
 // The listing of an answer (T8.1, T8.2): its text, out of the answer and its record.
 ghost use Rattle.std.specs.Prelude.{◌≤◌, length};
 ghost use Rattle.rules.specs.Answers.{outcome};
-ghost use Rattle.rules.specs.Listing.{textFrom, Listed};
+ghost use Rattle.rules.specs.Listing.{text_from, Listed};
 ghost use Rattle.out_lines.specs.Lines.{Begins};
 
 use out_lines::put_refusal;
@@ -14,7 +14,7 @@ const ROOM: usize = 4096;
 
 // The text of an answer and its record.
 fn put_answer(d: &mut [u8], answer: Answer, record: &[u8]) -> usize
-    ensures { Begins (textFrom (outcome answer) «record».now) d.old d.new result }
+    ensures { Begins (text_from (outcome answer) «record».now) d.old d.new result }
 {
     match answer {
         Answer::Plan { low: _, gap: _ } => put_record(d, record),
@@ -26,9 +26,9 @@ fn put_answer(d: &mut [u8], answer: Answer, record: &[u8]) -> usize
 // bytes. Where it is longer than `out`, or the answer is a plan and the record's bytes hold no record, nothing is
 // written and the answer is 0.
 pub fn write_listing(answer: Answer, record: &[u8], out: &mut [u8]) -> usize
-    ensures listed { Listed (textFrom (outcome answer) «record».now)
+    ensures listed { Listed (text_from (outcome answer) «record».now)
         out.old out.new result }
-    ensures record_len_bound { length (textFrom (outcome answer) «record».now) ≤ 4096 }
+    ensures record_len_bound { length (text_from (outcome answer) «record».now) ≤ 4096 }
 {
     let mut space = [0u8; ROOM];
     let end = put_answer(&mut space, answer, record);

@@ -1,6 +1,6 @@
 // Lines of a free MPS text (T14.3).
 // Each function puts lines at the end of a text, place `at`, and answers the place after them.
-ghost use Rattle.rules_mps.specs.Mps.{row_line, costLine, coefficientLine, rhsLine, boundLines};
+ghost use Rattle.rules_mps.specs.Mps.{row_line, cost_line, coefficient_line, rhs_line, bound_lines};
 ghost use Rattle.out_text.specs.Text.{Puts};
 
 use out_mps_fields::{put_last, put_name};
@@ -16,7 +16,7 @@ pub fn put_row(d: &mut [u8], at: usize, i: usize) -> usize
 
 // The cost of material j in COLUMNS.
 pub fn put_cost(d: &mut [u8], at: usize, j: usize, cost: i64) -> usize
-    ensures { Puts (costLine j cost) d.old at d.new result }
+    ensures { Puts (cost_line j cost) d.old at d.new result }
 {
     let named = put_name(d, at, b" X", j);
     let headed = put_bytes(d, named, b" COST");
@@ -25,7 +25,7 @@ pub fn put_cost(d: &mut [u8], at: usize, j: usize, cost: i64) -> usize
 
 // The coefficient of material j and limit i in COLUMNS.
 pub fn put_coefficient(d: &mut [u8], at: usize, j: usize, i: usize, coefficient: i64) -> usize
-    ensures { Puts (coefficientLine j i coefficient) d.old at d.new result }
+    ensures { Puts (coefficient_line j i coefficient) d.old at d.new result }
 {
     if coefficient == 0 {
         return at;
@@ -37,7 +37,7 @@ pub fn put_coefficient(d: &mut [u8], at: usize, j: usize, i: usize, coefficient:
 
 // The right-hand side of limit i in RHS.
 pub fn put_rhs(d: &mut [u8], at: usize, i: usize, rhs: i64) -> usize
-    ensures { Puts (rhsLine i rhs) d.old at d.new result }
+    ensures { Puts (rhs_line i rhs) d.old at d.new result }
 {
     if rhs == 0 {
         return at;
@@ -48,7 +48,7 @@ pub fn put_rhs(d: &mut [u8], at: usize, i: usize, rhs: i64) -> usize
 
 // The least and the most amount of material j in BOUNDS.
 pub fn put_bounds(d: &mut [u8], at: usize, j: usize, least: i64, most: i64) -> usize
-    ensures { Puts (boundLines j least most) d.old at d.new result }
+    ensures { Puts (bound_lines j least most) d.old at d.new result }
 {
     let lower = put_name(d, at, b" LO BND X", j);
     let ended = put_last(d, lower, least);

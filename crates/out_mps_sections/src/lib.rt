@@ -4,7 +4,7 @@
 ghost use Rattle.std.specs.Prelude.{◌+◌, ◌*◌, ◌≤◌};
 ghost use Rattle.rules.specs.Notation.{at as element};
 ghost use Rattle.rules.specs.Listing.{lines};
-ghost use Rattle.rules_mps.specs.Mps.{row_line, coefficientLine, columnLines, rhsLine, boundLines};
+ghost use Rattle.rules_mps.specs.Mps.{row_line, coefficient_line, column_lines, rhs_line, bound_lines};
 ghost use Rattle.out_text.specs.Text.{Puts};
 ghost use Rattle.out_mps_sections.specs.Sizes.{ColumnInside, SizesInside};
 
@@ -26,7 +26,7 @@ pub fn put_rows(d: &mut [u8], at: usize, m: usize) -> usize
 // The coefficients of material j in COLUMNS.
 fn put_coefficients(d: &mut [u8], at: usize, j: usize, m: usize, coefficient: &[i16; 512]) -> usize
     requires { ColumnInside j m }
-    ensures { Puts (lines m (λ i. coefficientLine j i (element coefficient.now (32 * i + j))))
+    ensures { Puts (lines m (λ i. coefficient_line j i (element coefficient.now (32 * i + j))))
         d.old at d.new result }
 {
     let mut end = at;
@@ -48,7 +48,7 @@ fn put_column(
     coefficient: &[i16; 512],
 ) -> usize
     requires { ColumnInside j m }
-    ensures { Puts (columnLines j m cost (λ i. element coefficient.now (32 * i + j)))
+    ensures { Puts (column_lines j m cost (λ i. element coefficient.now (32 * i + j)))
         d.old at d.new result }
 {
     let headed = put_cost(d, at, j, cost);
@@ -65,7 +65,7 @@ pub fn put_columns(
     coefficient: &[i16; 512],
 ) -> usize
     requires { SizesInside n m }
-    ensures { Puts (lines n (λ j. columnLines j m (element cost.now j)
+    ensures { Puts (lines n (λ j. column_lines j m (element cost.now j)
         (λ i. element coefficient.now (32 * i + j)))) d.old at d.new result }
 {
     let mut end = at;
@@ -80,7 +80,7 @@ pub fn put_columns(
 // The limits in RHS.
 pub fn put_right_hand_sides(d: &mut [u8], at: usize, m: usize, rhs: &[i32; 16]) -> usize
     requires { m ≤ 16 }
-    ensures { Puts (lines m (λ i. rhsLine i (element rhs.now i)))
+    ensures { Puts (lines m (λ i. rhs_line i (element rhs.now i)))
         d.old at d.new result }
 {
     let mut end = at;
@@ -101,7 +101,7 @@ pub fn put_all_bounds<'a>(
     most: &'a [i16; 32],
 ) -> usize
     requires { n ≤ 32 }
-    ensures { Puts (lines n (λ j. boundLines j (element least.now j) (element most.now j)))
+    ensures { Puts (lines n (λ j. bound_lines j (element least.now j) (element most.now j)))
         d.old at d.new result }
 {
     let mut end = at;

@@ -3,7 +3,7 @@ use Rattle.std.specs.Prelude.{◌≡◌, List, ◌++◌, ℕ, ◌<◌}
 use Rattle.std.proofs.Common.{◌∙◌}
 use Rattle.rules.specs.Problem.{Problem}
 use Rattle.rules.specs.Listing.{text, lines}
-use Rattle.rules_mps.specs.Mps.{costLine, coefficientLine, columnLines, row_line, rhsLine, boundLines, mpsText}
+use Rattle.rules_mps.specs.Mps.{cost_line, coefficient_line, column_lines, row_line, rhs_line, bound_lines, mps_text}
 use Rattle.proof_laws.specs.Agreeing.{Agree}
 use Rattle.out_lines.specs.ManyLines.{lines-agree}
 
@@ -18,28 +18,28 @@ module _ {P Q : Problem} (same : Agree P Q) where
   by-limits f g h = (λ k. lines (same.limits k) f) ∙ lines-agree Q.limits f g h
 
   columns : (j : ℕ) → j < Q.materials
-      → columnLines j P.limits (P.cost j) (λ i. P.coefficient i j)
-      ≡ columnLines j Q.limits (Q.cost j) (λ i. Q.coefficient i j)
-  unfolding columnLines
+      → column_lines j P.limits (P.cost j) (λ i. P.coefficient i j)
+      ≡ column_lines j Q.limits (Q.cost j) (λ i. Q.coefficient i j)
+  unfolding column_lines
   columns j l =
       let coefficients = by-limits
-      (λ i. coefficientLine j i (P.coefficient i j))
-      (λ i. coefficientLine j i (Q.coefficient i j))
-      (λ i h k. coefficientLine j i (same.coefficient i j h l k)) in
-      λ k. costLine j (same.cost j l k) ++ coefficients k
+      (λ i. coefficient_line j i (P.coefficient i j))
+      (λ i. coefficient_line j i (Q.coefficient i j))
+      (λ i h k. coefficient_line j i (same.coefficient i j h l k)) in
+      λ k. cost_line j (same.cost j l k) ++ coefficients k
 
-  pub same_text : mpsText P ≡ mpsText Q
-  unfolding mpsText
+  pub same_text : mps_text P ≡ mps_text Q
+  unfolding mps_text
   same_text =
       let all-columns = by-materials _ _ columns in
       let sides = by-limits
-      (λ i. rhsLine i (P.rhs i))
-      (λ i. rhsLine i (Q.rhs i))
-      (λ i h k. rhsLine i (same.rhs i h k)) in
+      (λ i. rhs_line i (P.rhs i))
+      (λ i. rhs_line i (Q.rhs i))
+      (λ i h k. rhs_line i (same.rhs i h k)) in
       let bounds = by-materials
-      (λ j. boundLines j (P.least j) (P.most j))
-      (λ j. boundLines j (Q.least j) (Q.most j))
-      (λ j l k. boundLines j (same.least j l k) (same.most j l k)) in
+      (λ j. bound_lines j (P.least j) (P.most j))
+      (λ j. bound_lines j (Q.least j) (Q.most j))
+      (λ j l k. bound_lines j (same.least j l k) (same.most j l k)) in
       λ k.
       text "NAME SHEET\n"
       ++ text "ROWS\n"

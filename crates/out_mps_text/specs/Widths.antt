@@ -3,8 +3,8 @@ use Rattle.std.specs.Prelude.{◌≡◌, refl, List, [], Bool, true, false, cond
 use Rattle.std.proofs.Common.{mul-suc, mul-add, arith, ltb-true, ltb-false, length-append}
 use Rattle.rules.specs.Notation.{is_zero}
 use Rattle.rules.specs.Listing.{text, decimal, lines}
-use Rattle.rules_mps.specs.Mps.{materialName, limitName, fields, unlessZero, row_line, costLine, coefficientLine}
-use Rattle.rules_mps.specs.Mps.{rhsLine, boundLines}
+use Rattle.rules_mps.specs.Mps.{material_name, limit_name, fields, unless_zero, row_line, cost_line, coefficient_line}
+use Rattle.rules_mps.specs.Mps.{rhs_line, bound_lines}
 use Rattle.out_numbers.specs.DecimalLength.{length-decimal-below}
 
 -- how many digits a number has
@@ -13,33 +13,33 @@ width i = length (decimal (pos i))
 
 -- ---- lines
 
-length-unless : (v : ℤ) (line : List ℕ) {b : ℕ} → length line ≤ b → length (unlessZero v line) ≤ b
-unfolding unlessZero
+length-unless : (v : ℤ) (line : List ℕ) {b : ℕ} → length line ≤ b → length (unless_zero v line) ≤ b
+unfolding unless_zero
 length-unless v line {b} h = elim (is_zero v) as (λ z. length (cond z [] line) ≤ b) [
   | true ↦ omega arith
   | false ↦ h
 ]
 
 pub length-row : (i : ℕ) → length (row_line i) ≤ 5 + 1 * width i
-unfolding row_line fields limitName text
+unfolding row_line fields limit_name text
 length-row i = simp length-append (omega arith)
 
-pub length-cost : (j : ℕ) (c : ℤ) → length (decimal c) ≤ 6 → length (costLine j c) ≤ 15 + width j
-unfolding costLine fields materialName text
+pub length-cost : (j : ℕ) (c : ℤ) → length (decimal c) ≤ 6 → length (cost_line j c) ≤ 15 + width j
+unfolding cost_line fields material_name text
 length-cost j c h = simp length-append (omega (arith, h))
 
 pub length-coefficient : (j i : ℕ) (a : ℤ) → length (decimal a) ≤ 5
-    → length (coefficientLine j i a) ≤ (11 + width j) + 1 * width i
-unfolding coefficientLine fields materialName limitName text
+    → length (coefficient_line j i a) ≤ (11 + width j) + 1 * width i
+unfolding coefficient_line fields material_name limit_name text
 length-coefficient j i a h = length-unless a _ (simp length-append (omega (arith, h)))
 
-pub length-rhs : (i : ℕ) (b : ℤ) → length (decimal b) ≤ 9 → length (rhsLine i b) ≤ 17 + 1 * width i
-unfolding rhsLine fields limitName text
+pub length-rhs : (i : ℕ) (b : ℤ) → length (decimal b) ≤ 9 → length (rhs_line i b) ≤ 17 + 1 * width i
+unfolding rhs_line fields limit_name text
 length-rhs i b h = length-unless b _ (simp length-append (omega (arith, h)))
 
 pub length-bounds : (j : ℕ) (l u : ℤ) → length (decimal l) ≤ 4 → length (decimal u) ≤ 4
-    → length (boundLines j l u) ≤ 30 + 2 * width j
-unfolding boundLines fields materialName text
+    → length (bound_lines j l u) ≤ 30 + 2 * width j
+unfolding bound_lines fields material_name text
 length-bounds j l u h k = simp length-append (omega (arith, h, k))
 
 -- ---- lines with rising numbers

@@ -1,11 +1,11 @@
 // The free MPS text of a sheet's figures (T14.3).
 ghost use Rattle.std.specs.Prelude.{◌+◌, ◌*◌};
 ghost use Rattle.rules.specs.Notation.{at as element};
-ghost use Rattle.rules_mps.specs.Mps.{mpsText};
-ghost use Rattle.sheet_figures.specs.Figures.{problemOf};
+ghost use Rattle.rules_mps.specs.Mps.{mps_text};
+ghost use Rattle.sheet_figures.specs.Figures.{problem_of};
 ghost use Rattle.out_text.specs.Text.{Puts};
 ghost use Rattle.out_mps_sections.specs.Sizes.{SizesInside};
-ghost use Rattle.out_mps_text.specs.Halves.{upperText, lowerText};
+ghost use Rattle.out_mps_text.specs.Halves.{upper_text, lower_text};
 
 use out_mps_sections::{put_all_bounds, put_columns, put_right_hand_sides, put_rows};
 use out_text::put_bytes;
@@ -14,7 +14,7 @@ use sheet_figures::Figures;
 // NAME, ROWS and COLUMNS, from place 0 on. It answers the place after them.
 fn put_upper(d: &mut [u8], n: usize, m: usize, cost: &[i16; 32], coefficient: &[i16; 512]) -> usize
     requires { SizesInside n m }
-    ensures { Puts (upperText n m (element cost.now)
+    ensures { Puts (upper_text n m (element cost.now)
         (λ i j. element coefficient.now (32 * i + j))) d.old 0 d.new result }
 {
     let head = put_bytes(d, 0, b"NAME SHEET\nROWS\n N COST\n");
@@ -34,7 +34,7 @@ fn put_lower<'a>(
     most: &'a [i16; 32],
 ) -> usize
     requires { SizesInside n m }
-    ensures { Puts (lowerText n m (element rhs.now) (element least.now)
+    ensures { Puts (lower_text n m (element rhs.now) (element least.now)
         (element most.now)) d.old at d.new result }
 {
     let head = put_bytes(d, at, b"RHS\n");
@@ -47,7 +47,7 @@ fn put_lower<'a>(
 // Puts the text from place 0 on, and answers the place after it.
 pub fn put_text(d: &mut [u8], f: Figures, coefficient: &[i16; 512]) -> usize
     requires { SizesInside f.materials f.limits }
-    ensures { Puts (mpsText (problemOf f coefficient.now)) d.old 0 d.new result }
+    ensures { Puts (mps_text (problem_of f coefficient.now)) d.old 0 d.new result }
 {
     let upper = put_upper(d, f.materials, f.limits, &f.cost, coefficient);
     put_lower(d, upper, f.materials, f.limits, &f.rhs, &f.least, &f.most)

@@ -10,24 +10,24 @@ use lib.IntN.{pos}
 use Rattle.rules.specs.Listing.{text, digits, decimal}
 
 -- the last i digits of v: those of its tenth, and then its last
-unfoldable pub lastDigits : ℕ → ℕ → List ℕ
-lastDigits zero v = []
-lastDigits (suc i) v = lastDigits i (v / 10) ++ ((48 + v % 10) ∷ [])
+unfoldable pub ending_digits : ℕ → ℕ → List ℕ
+ending_digits zero v = []
+ending_digits (suc i) v = ending_digits i (v / 10) ++ ((48 + v % 10) ∷ [])
 
-pub length_last : (i v : ℕ) → length (lastDigits i v) ≡ i
-unfolding lastDigits
+pub length_last : (i v : ℕ) → length (ending_digits i v) ≡ i
+unfolding ending_digits
 length_last zero v = refl
 length_last (suc i) v = simp (length-append, length_last i (v / 10), add-one)
 
 -- as many as there are, they are the digits that the definition has
-last_digits : (d v : ℕ) → lastDigits (length (digits d v)) v ≡ digits d v
-unfolding lastDigits digits
+last_digits : (d v : ℕ) → ending_digits (length (digits d v)) v ≡ digits d v
+unfolding ending_digits digits
 last_digits zero v = refl
 last_digits (suc d) zero = refl
 last_digits (suc d) (suc v) = simp (length-append, add-one) (rw (last_digits d (suc v / 10)))
 
-pub last-decimal : (v : ℕ) → lastDigits (length (decimal (pos v))) v ≡ decimal (pos v)
-unfolding lastDigits decimal text
+pub last-decimal : (v : ℕ) → ending_digits (length (decimal (pos v))) v ≡ decimal (pos v)
+unfolding ending_digits decimal text
 last-decimal zero = refl
 last-decimal (suc v) = last_digits (suc v) (suc v)
 

@@ -7,7 +7,7 @@ use Rattle.proof_integer.specs.Range.{small-fits, wider}
 use Rattle.rules.specs.Notation.{at}
 use Rattle.rules.specs.Run.{Plan}
 use Rattle.rules.specs.Record.{recorded}
-use Rattle.rules.specs.Listing.{text, line, lines, planText}
+use Rattle.rules.specs.Listing.{text, line, lines, plan_text}
 use Rattle.proof_magnitudes.specs.PlanFits.{PlanFits}
 use Rattle.out_record.specs.RecordedFits.{recorded-fits}
 use Rattle.out_lines.specs.LineLength.{Every, length-line, length-lines}
@@ -30,7 +30,7 @@ module _ {p : Plan} (fits : PlanFits p) where
       (λ j l. length-line "mat" _ (small (lt_trans l fits.materials), (wider tt (fits.sum j l), tt)))
 
   lim-lines :
-      length (lines p.limits (λ i. line "lim" (pos i ∷ at p.multipliers i ∷ at p.residualTotals i ∷ [])))
+      length (lines p.limits (λ i. line "lim" (pos i ∷ at p.multipliers i ∷ at p.residual_totals i ∷ [])))
       ≤ 67 * p.limits
   unfolding Every text
   lim-lines =
@@ -47,14 +47,14 @@ module _ {p : Plan} (fits : PlanFits p) where
   gap-line = length-line "gap" _ (fits.gap, tt)
 
   -- its text has at most 27 + 32·46 + 16·67 + 25 + 25 bytes
-  length-text : p.materials ≤ 32 → p.limits ≤ 16 → length (planText p) ≤ 4096
-  unfolding planText
+  length-text : p.materials ≤ 32 → p.limits ≤ 16 → length (plan_text p) ≤ 4096
+  unfolding plan_text
   length-text narrow few =
       simp length-append (omega (arith, steps-line, mat-lines, lim-lines, low-line, gap-line))
 
 -- the text of any bytes that begin with a record
 pub length-plan-text : (r : List ℕ) (n m : ℕ) → ((i : ℕ) → Fits w8 (get_or r i 0)) → WholeRecord r n m
-    → length (planText (recorded r)) ≤ 4096
+    → length (plan_text (recorded r)) ≤ 4096
 unfolding recorded
 length-plan-text r n m bytes s =
     length-text (recorded-fits r bytes)

@@ -1,7 +1,7 @@
 // The text of the plan that a record holds (T8.1).
 ghost use Rattle.std.specs.Prelude.{cond, []};
-ghost use Rattle.rules.specs.Record.{recorded, holdsRecord};
-ghost use Rattle.rules.specs.Listing.{planText};
+ghost use Rattle.rules.specs.Record.{recorded, holds_record};
+ghost use Rattle.rules.specs.Listing.{plan_text};
 ghost use Rattle.out_text.specs.Text.{Puts};
 ghost use Rattle.out_lines.specs.Lines.{Begins};
 ghost use Rattle.out_plan.specs.RecordText.{WholeRecord};
@@ -14,7 +14,7 @@ use out_values::{put_steps, put_value};
 // The lines of a plan.
 fn put_plan(d: &mut [u8], record: &[u8], n: usize, m: usize) -> usize
     requires { WholeRecord «record».now n m }
-    ensures { Puts (planText (recorded «record».now)) d.old 0 d.new result }
+    ensures { Puts (plan_text (recorded «record».now)) d.old 0 d.new result }
 {
     let multipliers = multipliers_at(n);
     let totals = totals_at(n, m);
@@ -29,7 +29,7 @@ fn put_plan(d: &mut [u8], record: &[u8], n: usize, m: usize) -> usize
 // It answers the place after them.
 pub fn put_record(d: &mut [u8], record: &[u8]) -> usize
     ensures { Begins
-        (cond (holdsRecord «record».now) (planText (recorded «record».now)) [])
+        (cond (holds_record «record».now) (plan_text (recorded «record».now)) [])
         d.old d.new result }
 {
     if record.len() < SUMS_AT {

@@ -3,10 +3,10 @@ use Rattle.std.specs.Prelude.{◌≡◌, true, ℕ, ◌+◌, ◌*◌, ◌≤◌,
 use Rattle.std.proofs.Common.{ap, ◌∙◌, arith, le-leb, length-append}
 use mathlib.Core.List.{List, [], ◌∷◌, ◌++◌, append_assoc, append-nil, flatten}
 use Rattle.rules.specs.Notation.{tabulate}
-use Rattle.rules.specs.Bytes.{unsignedAt, signedAt, unsignedBytes, signedBytes}
+use Rattle.rules.specs.Bytes.{unsigned_at, signed_at, unsigned_bytes, signed_bytes}
 use Rattle.rules.specs.Run.{Plan}
-use Rattle.rules.specs.Record.{fields, recordOf, recordLength, recorded, holdsRecord}
-use Rattle.rules.specs.Record.{limitsAt, sumsAt, multipliersAt, totalsAt}
+use Rattle.rules.specs.Record.{fields, record_of, record_length, recorded, holds_record}
+use Rattle.rules.specs.Record.{limits_at, sums_at, multipliers_at, totals_at}
 use Rattle.proof_magnitudes.specs.PlanFits.{PlanFits}
 use Rattle.bytes_write.specs.Number.{length-unsigned, length-signed, length_fields}
 use Rattle.bytes_write.specs.ReadBack.{From, after, unsigned-read, signed-read, figures-read}
@@ -19,18 +19,18 @@ long w zs l = length_fields w zs ∙ ap (λ (n : ℕ). w * n) l
 
 -- the parts of a record, from its first byte on
 parts : (p : Plan) (rest : List ℕ)
-    → From (recordOf p ++ rest) 0
-    (unsignedBytes 2 p.materials ∷ unsignedBytes 2 p.limits ∷ unsignedBytes 2 p.steps
-    ∷ signedBytes 8 p.low ∷ signedBytes 8 p.gap
-    ∷ fields 4 p.sums ∷ fields 4 p.multipliers ∷ fields 8 p.residualTotals ∷ rest ∷ [])
-unfolding flatten recordOf
+    → From (record_of p ++ rest) 0
+    (unsigned_bytes 2 p.materials ∷ unsigned_bytes 2 p.limits ∷ unsigned_bytes 2 p.steps
+    ∷ signed_bytes 8 p.low ∷ signed_bytes 8 p.gap
+    ∷ fields 4 p.sums ∷ fields 4 p.multipliers ∷ fields 8 p.residual_totals ∷ rest ∷ [])
+unfolding flatten record_of
 parts p rest = record { is = simp (append_assoc, append-nil) }
 
 -- each figure is read from the place after those before it
-pub round_trip : {p : Plan} → PlanFits p → (rest : List ℕ) → recorded (recordOf p ++ rest) ≡ p
+pub round_trip : {p : Plan} → PlanFits p → (rest : List ℕ) → recorded (record_of p ++ rest) ≡ p
 unfolding recorded
 round_trip {p} fits rest =
-    let r = recordOf p ++ rest in
+    let r = record_of p ++ rest in
     let materials-at = parts p rest in
     let limits-at = after materials-at (length-unsigned 2 p.materials) in
     let steps-at = after limits-at (length-unsigned 2 p.limits) in
@@ -47,21 +47,21 @@ round_trip {p} fits rest =
     let sums = figures-read 4 p.sums sums_at fits.sums-length (λ j l. (fits.sum j l).sfits) in
     let multipliers =
     figures-read 4 p.multipliers multipliers-at fits.multipliers-length (λ i l. (fits.multiplier i l).sfits) in
-    let totals = figures-read 8 p.residualTotals totals-at fits.totals-length (λ i l. (fits.total i l).sfits) in
+    let totals = figures-read 8 p.residual_totals totals-at fits.totals-length (λ i l. (fits.total i l).sfits) in
     λ i. record {
       materials = n i;
       limits = m i;
       steps = k i;
       low = low i;
       gap = gap i;
-      sums = ((λ i. tabulate (n i) (λ j. signedAt 4 r (sumsAt + 4 * j))) ∙ sums) i;
-      multipliers = ((λ i. tabulate (m i) (λ j. signedAt 4 r (multipliersAt (n i) + 4 * j))) ∙ multipliers) i;
-      residualTotals = ((λ i. tabulate (m i) (λ j. signedAt 8 r (totalsAt (n i) (m i) + 8 * j))) ∙ totals) i;
+      sums = ((λ i. tabulate (n i) (λ j. signed_at 4 r (sums_at + 4 * j))) ∙ sums) i;
+      multipliers = ((λ i. tabulate (m i) (λ j. signed_at 4 r (multipliers_at (n i) + 4 * j))) ∙ multipliers) i;
+      residual_totals = ((λ i. tabulate (m i) (λ j. signed_at 8 r (totals_at (n i) (m i) + 8 * j))) ∙ totals) i;
     }
 
 -- the whole record is there
 whole-record : {p : Plan} → PlanFits p → (rest : List ℕ)
-    → recordLength p.materials p.limits ≤ length (recordOf p ++ rest)
+    → record_length p.materials p.limits ≤ length (record_of p ++ rest)
 whole-record {p} fits rest =
     let n = p.materials in
     let m = p.limits in
@@ -70,11 +70,11 @@ whole-record {p} fits rest =
 
 -- bytes that begin with the record of a plan hold a record, where its sizes are at most the largest of a sheet
 pub holds-record : {p : Plan} → PlanFits p → RecordSizes p.materials p.limits → (rest : List ℕ)
-    → holdsRecord (recordOf p ++ rest) ≡ true
-unfolding recorded holdsRecord
+    → holds_record (record_of p ++ rest) ≡ true
+unfolding recorded holds_record
 holds-record {p} fits sizes rest =
-    let r = recordOf p ++ rest in
-    let n : unsignedAt 2 r 0 ≡ p.materials = λ i. (round_trip fits rest i).materials in
-    let m : unsignedAt 2 r limitsAt ≡ p.limits = λ i. (round_trip fits rest i).limits in
-    let whole = le-leb (recordLength p.materials p.limits) (length r) (whole-record fits rest) in
+    let r = record_of p ++ rest in
+    let n : unsigned_at 2 r 0 ≡ p.materials = λ i. (round_trip fits rest i).materials in
+    let m : unsigned_at 2 r limits_at ≡ p.limits = λ i. (round_trip fits rest i).limits in
+    let whole = le-leb (record_length p.materials p.limits) (length r) (whole-record fits rest) in
     rw (n, m, le-leb p.materials 32 sizes.materials, le-leb p.limits 16 sizes.limits, whole)

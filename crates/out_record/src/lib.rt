@@ -1,9 +1,9 @@
 // The record of a plan (T6.1) into a lent buffer.
 ghost use Rattle.std.specs.Prelude.{◌≡◌, ◌++◌, drop};
-ghost use Rattle.rules.specs.Record.{sumsAt, recordOf, recordLength};
+ghost use Rattle.rules.specs.Record.{sums_at, record_of, record_length};
 ghost use Rattle.bytes_write.specs.Written.{written};
 ghost use Rattle.bytes_write.specs.Number.{Room};
-ghost use Rattle.out_record.specs.RecordParts.{headBytes, planIn, RecordRoom};
+ghost use Rattle.out_record.specs.RecordParts.{head_bytes, plan_in, RecordRoom};
 
 use bytes_write::{put_signed, put_unsigned};
 use out_fields::{put_32, put_64};
@@ -24,8 +24,8 @@ pub struct Head {
 
 // n, m and k; low and gap.
 fn put_head(record: &mut [u8], head: Head)
-    requires { Room 0 sumsAt «record».old }
-    ensures { «record».new ≡ written (headBytes head) «record».old }
+    requires { Room 0 sums_at «record».old }
+    ensures { «record».new ≡ written (head_bytes head) «record».old }
 {
     put_unsigned(record, 0, 2, head.materials as u64);
     put_unsigned(record, LIMITS_AT, 2, head.limits as u64);
@@ -44,8 +44,8 @@ pub fn write_record(
 )
     requires { RecordRoom head «record».old }
     ensures { «record».new
-        ≡ recordOf (planIn head sums.now multipliers.now residual_totals.now)
-        ++ drop (recordLength head.materials head.limits) «record».old }
+        ≡ record_of (plan_in head sums.now multipliers.now residual_totals.now)
+        ++ drop (record_length head.materials head.limits) «record».old }
 {
     let n = head.materials;
     let m = head.limits;

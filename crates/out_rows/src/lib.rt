@@ -3,7 +3,7 @@
 ghost use Rattle.std.specs.Prelude.{suc};
 ghost use Rattle.rules.specs.Listing.{lines};
 ghost use Rattle.out_text.specs.Text.{Puts};
-ghost use Rattle.out_rows.specs.RecordLines.{materialLine, limitLine, MaterialsInside, LimitsInside};
+ghost use Rattle.out_rows.specs.RecordLines.{material_line, limit_line, MaterialsInside, LimitsInside};
 
 use bytes_read::signed_at;
 use out_layout::SUMS_AT;
@@ -12,7 +12,7 @@ use out_lines::put_line;
 // The line of a material.
 fn put_material(d: &mut [u8], at: usize, record: &[u8], j: usize) -> usize
     requires { MaterialsInside «record».now (suc j) }
-    ensures { Puts (materialLine «record».now j) d.old at d.new result }
+    ensures { Puts (material_line «record».now j) d.old at d.new result }
 {
     let sum = signed_at(record, SUMS_AT + 4 * j, 4);
     let figures = [j as i64, sum];
@@ -22,7 +22,7 @@ fn put_material(d: &mut [u8], at: usize, record: &[u8], j: usize) -> usize
 // The lines of the materials.
 pub fn put_materials(d: &mut [u8], at: usize, record: &[u8], n: usize) -> usize
     requires { MaterialsInside «record».now n }
-    ensures { Puts (lines n (materialLine «record».now)) d.old at d.new result }
+    ensures { Puts (lines n (material_line «record».now)) d.old at d.new result }
 {
     let mut end = at;
     let mut j: usize = 0;
@@ -43,7 +43,7 @@ fn put_limit(
     i: usize,
 ) -> usize
     requires { LimitsInside «record».now multipliers totals (suc i) }
-    ensures { Puts (limitLine «record».now multipliers totals i)
+    ensures { Puts (limit_line «record».now multipliers totals i)
         d.old at d.new result }
 {
     let multiplier = signed_at(record, multipliers + 4 * i, 4);
@@ -62,7 +62,7 @@ pub fn put_limits(
     m: usize,
 ) -> usize
     requires { LimitsInside «record».now multipliers totals m }
-    ensures { Puts (lines m (limitLine «record».now multipliers totals))
+    ensures { Puts (lines m (limit_line «record».now multipliers totals))
         d.old at d.new result }
 {
     let mut end = at;

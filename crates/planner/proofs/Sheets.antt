@@ -8,16 +8,16 @@ use lib.IntN.{ℤ}
 use lib.ListN.{length}
 use Rattle.rules.specs.Notation.{tabulate, at}
 use Rattle.rules.specs.Problem.{Problem}
-use Rattle.rules.specs.Sheet.{sheetOf, problem}
-use Rattle.rules.specs.Run.{planAfter}
-use Rattle.rules.specs.Record.{recordLength}
-use Rattle.rules.specs.Refusals.{Numbered, refuse, ◌otherwise◌, layoutRefusal}
-use Rattle.rules.specs.Answers.{planRefusal, plan_of, refusal}
+use Rattle.rules.specs.Sheet.{sheet_of, problem}
+use Rattle.rules.specs.Run.{plan_after}
+use Rattle.rules.specs.Record.{record_length}
+use Rattle.rules.specs.Refusals.{Numbered, refuse, ◌otherwise◌, layout_refusal}
+use Rattle.rules.specs.Answers.{plan_refusal, plan_of, refusal}
 use Rattle.proof_laws.specs.FirstPlace.{given, handed-on}
 use Rattle.proof_laws.specs.Agreeing.{same-refusal, same-plan}
 use Rattle.proof_magnitudes.specs.Accepted.{accepted}
 use Rattle.sheet_figures.specs.declared.Figures.{Figures}
-use Rattle.sheet_figures.specs.Figures.{figuresOf, problemOf, array_whole}
+use Rattle.sheet_figures.specs.Figures.{figures_of, problem_of, array_whole}
 use Rattle.sheet_figures.specs.Padded.{padded}
 use Rattle.sheet_read.specs.declared.Reading.{Reading}
 use Rattle.sheet_read.specs.Reading.{Reads}
@@ -25,43 +25,43 @@ use Rattle.sheet_read.specs.Agreeing.{figures-are, steps-are, agree, accepted-in
 use Rattle.run_step.specs.Reached.{FiguresReady}
 
 -- ---- a sheet that is read, with its figures in arrays
-module _ (s : List ℕ) (read : layoutRefusal s ≡ none) (lent : List ℤ) (long : length lent ≡ 512)
-    {a : List ℤ} {r : Reading} (reads : Reads (sheetOf s) (layoutRefusal s) lent a r) where
+module _ (s : List ℕ) (read : layout_refusal s ≡ none) (lent : List ℤ) (long : length lent ≡ 512)
+    {a : List ℤ} {r : Reading} (reads : Reads (sheet_of s) (layout_refusal s) lent a r) where
   abbrev P : Problem
-  P = problem (sheetOf s)
+  P = problem (sheet_of s)
 
   abbrev F : Figures
   F = r.figures
 
   pub figures-ready : FiguresReady F a
-  unfolding figuresOf
+  unfolding figures_of
   figures-ready =
       let G = sym (figures-are s read lent long reads) in
       record {
         accepted = accepted-in-arrays s read lent long reads;
         starts =
             transport (λ i. (G i).start ≡ padded 16 (tabulate (G i).limits (at (G i).start)))
-            (array_whole 16 P.limits P.startingMultiplier (accepted s read).limits-few);
+            (array_whole 16 P.limits P.starting_multiplier (accepted s read).limits-few);
       }
 
-  pub plan-is : planAfter (problemOf F a) F.steps ≡ plan_of (sheetOf s)
+  pub plan-is : plan_after (problem_of F a) F.steps ≡ plan_of (sheet_of s)
   unfolding plan_of
-  plan-is = same-plan (agree s read lent long reads) F.steps ∙ ap (planAfter P) (steps-are s read lent long reads)
+  plan-is = same-plan (agree s read lent long reads) F.steps ∙ ap (plan_after P) (steps-are s read lent long reads)
 
   -- refusals 8 to 10 of the figures are those of the sheet
   pub refusal_is : (room : ℕ)
-      → planRefusal (problemOf F a) F.steps room ≡ refusal (sheetOf s) (layoutRefusal s) room
-  unfolding refusal planRefusal
+      → plan_refusal (problem_of F a) F.steps room ≡ refusal (sheet_of s) (layout_refusal s) room
+  unfolding refusal plan_refusal
   refusal_is room =
       let same = agree s read lent long reads in
-      let wanted : recordLength F.materials F.limits ≡ recordLength P.materials P.limits =
-      (λ i. recordLength (same.materials i) (same.limits i)) in
+      let wanted : record_length F.materials F.limits ≡ record_length P.materials P.limits =
+      (λ i. record_length (same.materials i) (same.limits i)) in
       (λ i. refuse 8 (wanted i) (ltb room (wanted i)) otherwise same-refusal same F.steps i)
-      ∙ ap (λ (k : ℕ). planRefusal P k room) (steps-are s read lent long reads)
-      ∙ sym (handed-on (planRefusal P (sheetOf s).sizes.steps room) read)
+      ∙ ap (λ (k : ℕ). plan_refusal P k room) (steps-are s read lent long reads)
+      ∙ sym (handed-on (plan_refusal P (sheet_of s).sizes.steps room) read)
 
 -- ---- a sheet that is not read
-pub layout-refused : (s : List ℕ) (room : ℕ) {r : Numbered} → layoutRefusal s ≡ some r
-    → refusal (sheetOf s) (layoutRefusal s) room ≡ some r
+pub layout-refused : (s : List ℕ) (room : ℕ) {r : Numbered} → layout_refusal s ≡ some r
+    → refusal (sheet_of s) (layout_refusal s) room ≡ some r
 unfolding refusal
 layout-refused s room h = given _ h

@@ -4,36 +4,36 @@ use Rattle.std.proofs.Math.Option.{Option}
 use Rattle.rules.specs.declared.Answer.{Answer}
 use Rattle.rules.specs.Notation.{at}
 use Rattle.rules.specs.Run.{Plan, gap_of}
-use Rattle.rules.specs.Record.{recordLength}
+use Rattle.rules.specs.Record.{record_length}
 use Rattle.rules.specs.Refusals.{Numbered}
-use Rattle.rules.specs.Answers.{outcome, outcomeOf, bufferOf}
+use Rattle.rules.specs.Answers.{outcome, outcome_of, buffer_of}
 use Rattle.sheet_figures.specs.declared.Figures.{Figures}
 use Rattle.run_step.specs.declared.State.{State}
 use Rattle.run_step.specs.Reached.{FiguresReady}
-use Rattle.run_costs.specs.Costs.{costsOnly, GapFits}
-use Rattle.out_record.specs.RecordParts.{planIn}
+use Rattle.run_costs.specs.Costs.{costs_only, GapFits}
+use Rattle.out_record.specs.RecordParts.{plan_in}
 use Rattle.out_record.specs.declared.Head.{Head}
 
 -- the answer of a plan p and of the refusal that was met, if any, with the buffer afterwards
 pub record Ends (p : Plan) (met : Option Numbered) (lent left : List ℕ) (result : Answer) : Type 0 where
-  pub answered : outcome result ≡ outcomeOf p met
-  pub buffer : left ≡ bufferOf p lent (outcomeOf p met)
+  pub answered : outcome result ≡ outcome_of p met
+  pub buffer : left ≡ buffer_of p lent (outcome_of p met)
 
 -- the figures of an accepted sheet, with the coefficients in a, and a buffer that can take the record
 pub record RunReady (f : Figures) (a : List ℤ) (lent : List ℕ) : Type 0 where
   pub figures : FiguresReady f a
-  pub room : recordLength f.materials f.limits ≤ length lent
+  pub room : record_length f.materials f.limits ≤ length lent
 
 -- the plan of a run that ended with the state w
-unfoldable pub planWith : Figures → State → Plan
-planWith f w =
-    let gap = gap_of (costsOnly f.materials f.scale f.cost) f.steps w.low (at w.sums) in
+unfoldable pub plan_with : Figures → State → Plan
+plan_with f w =
+    let gap = gap_of (costs_only f.materials f.scale f.cost) f.steps w.low (at w.sums) in
     let head : Head =
     record { materials = f.materials; limits = f.limits; steps = f.steps; low = w.low; gap = gap } in
-    planIn head w.sums w.multipliers w.totals
+    plan_in head w.sums w.multipliers w.totals
 
 -- its gap fits, and the buffer can take the record
 pub record WriteReady (f : Figures) (w : State) (lent : List ℕ) : Type 0 where
-  pub gap : GapFits (costsOnly f.materials f.scale f.cost) f.steps w.low (at w.sums)
+  pub gap : GapFits (costs_only f.materials f.scale f.cost) f.steps w.low (at w.sums)
   pub few : f.limits ≤ 16
-  pub room : recordLength f.materials f.limits ≤ length lent
+  pub room : record_length f.materials f.limits ≤ length lent

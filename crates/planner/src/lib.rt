@@ -1,12 +1,12 @@
 // Plans a sheet: its bytes and a lent buffer to the answer, with the record in the buffer.
 ghost use Rattle.std.proofs.Math.Option.{none};
 ghost use Rattle.std.specs.Prelude.{length};
-ghost use Rattle.rules.specs.Run.{planAfter};
-ghost use Rattle.rules.specs.Answers.{runRefusal, planRefusal};
+ghost use Rattle.rules.specs.Run.{plan_after};
+ghost use Rattle.rules.specs.Answers.{run_refusal, plan_refusal};
 ghost use Rattle.rules.specs.Promise.{Promise};
-ghost use Rattle.sheet_figures.specs.Figures.{problemOf};
+ghost use Rattle.sheet_figures.specs.Figures.{problem_of};
 ghost use Rattle.run_step.specs.Reached.{FiguresReady};
-ghost use Rattle.planner.specs.Finish.{Ends, RunReady, planWith, WriteReady};
+ghost use Rattle.planner.specs.Finish.{Ends, RunReady, plan_with, WriteReady};
 
 use out_layout::record_length;
 use out_record::{Head, write_record};
@@ -20,7 +20,7 @@ use sheet_read::read_sheet;
 // The record and the answer of a run that came to its end.
 fn write_plan(f: Figures, state: State, record: &mut [u8]) -> Answer
     requires { WriteReady f state «record».old }
-    ensures { Ends (planWith f state) none «record».old «record».new result }
+    ensures { Ends (plan_with f state) none «record».old «record».new result }
 {
     let low = state.low;
     let sums = state.sums;
@@ -41,8 +41,8 @@ fn write_plan(f: Figures, state: State, record: &mut [u8]) -> Answer
 // The run of a sheet's figures, in a buffer that can take the record.
 fn plan_run(f: Figures, coefficient: &[i16; 512], record: &mut [u8]) -> Answer
     requires { RunReady f coefficient.now «record».old }
-    ensures { Ends (planAfter (problemOf f coefficient.now) f.steps)
-        (runRefusal (problemOf f coefficient.now) f.steps)
+    ensures { Ends (plan_after (problem_of f coefficient.now) f.steps)
+        (run_refusal (problem_of f coefficient.now) f.steps)
         «record».old «record».new result }
 {
     let ran = run(f, coefficient);
@@ -56,8 +56,8 @@ fn plan_run(f: Figures, coefficient: &[i16; 512], record: &mut [u8]) -> Answer
 // The plan of a sheet's figures, or refusals 8 to 10.
 fn plan_figures(f: Figures, coefficient: &[i16; 512], record: &mut [u8]) -> Answer
     requires { FiguresReady f coefficient.now }
-    ensures { Ends (planAfter (problemOf f coefficient.now) f.steps)
-        (planRefusal (problemOf f coefficient.now) f.steps (length «record».old))
+    ensures { Ends (plan_after (problem_of f coefficient.now) f.steps)
+        (plan_refusal (problem_of f coefficient.now) f.steps (length «record».old))
         «record».old «record».new result }
 {
     let wanted = record_length(f.materials, f.limits);

@@ -10,7 +10,7 @@ use Rattle.proof_integer.specs.Order.{gap-mul, square-nonneg, max_cases}
 use Rattle.proof_integer.specs.Solve.{lit, ◌⊕◌, ◌⊖◌, ◌⊗◌, ◌≋◌, ◌≼◌, ◌≺◌, never, ◌⊢◌, ringℤ, omegaℤ}
 use Rattle.proof_integer.specs.Range.{Bnd, ◌b+◌, ◌b-◌, ◌b*◌, b-lit, b-up, bnd-of, sfits-bnd, bnd-sfits}
 use Rattle.proof_integer.specs.Range.{bnd-between, between-bnd, sfits-between}
-use Rattle.proof_integer.specs.Sum.{sumTo-cong, sumTo-add, sumTo-scale, sumTo-telescope, sumTo-bnd}
+use Rattle.proof_integer.specs.Sum.{sum_to-cong, sum_to-add, sum_to-scale, sum_to-telescope, sum_to-bnd}
 use Rattle.proof_integer.specs.Vector.{at-tabulate}
 use Rattle.rules.specs.Notation.{maxℤ, sum_to, tabulate, at}
 
@@ -91,18 +91,18 @@ bound-by-omega x y n l h k = bnd-of (x +ℤ y) (omega (arith, (h b+ k).bnd))
 -- ---- sums
 -- a sum taken apart by its laws
 sum-apart : (n : ℕ) (c : ℤ) (f g : ℕ → ℤ) → sum_to n (λ j. f j +ℤ c *ℤ g j) ≡ sum_to n f +ℤ c *ℤ sum_to n g
-sum-apart n c f g = simp (sumTo-add, sumTo-scale)
+sum-apart n c f g = simp (sum_to-add, sum_to-scale)
 
 -- steps that add up to the way from the first to the last
 sum-of-steps : (n : ℕ) (f : ℕ → ℤ) → sum_to n (λ t. pos 2 *ℤ (f (suc t) -ℤ f t)) ≡ pos 2 *ℤ (f n -ℤ f 0)
-sum-of-steps n f = simp sumTo-scale (ap (λ s. pos 2 *ℤ s) (sumTo-telescope n f))
+sum-of-steps n f = simp sum_to-scale (ap (λ s. pos 2 *ℤ s) (sum_to-telescope n f))
 
 -- at most 32 products fit
 sum_fits : (n : ℕ) (f g : ℕ → ℤ) → n ≤ 32
     → ((j : ℕ) → j < n → Bnd (f j) 1000) → ((j : ℕ) → j < n → Bnd (g j) 1000)
     → SFits w32 (sum_to n (λ j. f j *ℤ g j))
-sum_fits n f g l h k = bnd-sfits tt (sumTo-bnd {N = 32} n (λ j. f j *ℤ g j) l (λ j i. h j i b* k j i))
+sum_fits n f g l h k = bnd-sfits tt (sum_to-bnd {N = 32} n (λ j. f j *ℤ g j) l (λ j i. h j i b* k j i))
 
 -- ---- vectors: a sum over a list is the sum over what it was made of
 sum-of-vector : (n : ℕ) (f : ℕ → ℤ) → sum_to n (λ j. at (tabulate n f) j) ≡ sum_to n f
-sum-of-vector n f = sumTo-cong n (λ j. at (tabulate n f) j) f (λ j l. at-tabulate n f j l)
+sum-of-vector n f = sum_to-cong n (λ j. at (tabulate n f) j) f (λ j l. at-tabulate n f j l)

@@ -44,24 +44,24 @@ pick Ordering.eq x y = x
 pick Ordering.gt x y = y
 
 -- one more variable
-abbrev insM : ℕ → List ℕ → List ℕ
-insM i [] = i ∷ []
-insM i (j ∷ m) = pick (compare i j) (i ∷ j ∷ m) (j ∷ insM i m)
+abbrev ins_m : ℕ → List ℕ → List ℕ
+ins_m i [] = i ∷ []
+ins_m i (j ∷ m) = pick (compare i j) (i ∷ j ∷ m) (j ∷ ins_m i m)
 
 -- the product of two monomials
 abbrev join : List ℕ → List ℕ → List ℕ
 join [] n = n
-join (i ∷ m) n = insM i (join m n)
+join (i ∷ m) n = ins_m i (join m n)
 
 mono-pick : (o : Ordering) (x y : List ℕ) (ρ : List ℤ) (r : ℤ) → mono x ρ ≡ r → mono y ρ ≡ r → mono (pick o x y) ρ ≡ r
 mono-pick Ordering.lt x y ρ r p q = p
 mono-pick Ordering.eq x y ρ r p q = p
 mono-pick Ordering.gt x y ρ r p q = q
 
-mono-ins : (i : ℕ) (m : List ℕ) (ρ : List ℤ) → mono (insM i m) ρ ≡ nth ρ i *ℤ mono m ρ
+mono-ins : (i : ℕ) (m : List ℕ) (ρ : List ℤ) → mono (ins_m i m) ρ ≡ nth ρ i *ℤ mono m ρ
 mono-ins i [] ρ = refl
 mono-ins i (j ∷ m) ρ =
-    mono-pick (compare i j) (i ∷ j ∷ m) (j ∷ insM i m) ρ (nth ρ i *ℤ (nth ρ j *ℤ mono m ρ)) refl
+    mono-pick (compare i j) (i ∷ j ∷ m) (j ∷ ins_m i m) ρ (nth ρ i *ℤ (nth ρ j *ℤ mono m ρ)) refl
     (ap (λ t. nth ρ j *ℤ t) (mono-ins i m ρ) ∙ *ℤ-left-comm (nth ρ j) (nth ρ i) (mono m ρ))
 
 mono-join : (m n : List ℕ) (ρ : List ℤ) → mono (join m n) ρ ≡ mono m ρ *ℤ mono n ρ
@@ -149,62 +149,62 @@ ins-tot c m empty ρ = refl
 ins-tot c m (more d n p) ρ = place-tot (cmp m n) c m d n p (ins c m p) ρ (cmp-eq m n) (ins-tot c m p ρ)
 
 -- ---- the operations of polynomials
-abbrev addP : Poly → Poly → Poly
-addP empty q = q
-addP (more c m p) q = ins c m (addP p q)
+abbrev add_p : Poly → Poly → Poly
+add_p empty q = q
+add_p (more c m p) q = ins c m (add_p p q)
 
-addP-tot : (p q : Poly) (ρ : List ℤ) → tot (addP p q) ρ ≡ tot p ρ +ℤ tot q ρ
-addP-tot empty q ρ = sym (+ℤ_idl (tot q ρ))
-addP-tot (more c m p) q ρ =
-    ins-tot c m (addP p q) ρ
-    ∙ ap (λ t. c *ℤ mono m ρ +ℤ t) (addP-tot p q ρ)
+add_p-tot : (p q : Poly) (ρ : List ℤ) → tot (add_p p q) ρ ≡ tot p ρ +ℤ tot q ρ
+add_p-tot empty q ρ = sym (+ℤ_idl (tot q ρ))
+add_p-tot (more c m p) q ρ =
+    ins-tot c m (add_p p q) ρ
+    ∙ ap (λ t. c *ℤ mono m ρ +ℤ t) (add_p-tot p q ρ)
     ∙ sym (+ℤ_assoc (c *ℤ mono m ρ) (tot p ρ) (tot q ρ))
 
-abbrev negP : Poly → Poly
-negP empty = empty
-negP (more c m p) = more (neg_ℤ c) m (negP p)
+abbrev neg_p : Poly → Poly
+neg_p empty = empty
+neg_p (more c m p) = more (neg_ℤ c) m (neg_p p)
 
-negP-tot : (p : Poly) (ρ : List ℤ) → tot (negP p) ρ ≡ neg_ℤ (tot p ρ)
-negP-tot empty ρ = refl
-negP-tot (more c m p) ρ = ap₂ ◌+ℤ◌ (neg-*ℤ c (mono m ρ)) (negP-tot p ρ) ∙ sym (neg_ℤ-+ℤ (c *ℤ mono m ρ) (tot p ρ))
+neg_p-tot : (p : Poly) (ρ : List ℤ) → tot (neg_p p) ρ ≡ neg_ℤ (tot p ρ)
+neg_p-tot empty ρ = refl
+neg_p-tot (more c m p) ρ = ap₂ ◌+ℤ◌ (neg-*ℤ c (mono m ρ)) (neg_p-tot p ρ) ∙ sym (neg_ℤ-+ℤ (c *ℤ mono m ρ) (tot p ρ))
 
 -- by one term
-abbrev scaleP : ℤ → List ℕ → Poly → Poly
-scaleP c m empty = empty
-scaleP c m (more d n q) = ins (c *ℤ d) (join m n) (scaleP c m q)
+abbrev scale_p : ℤ → List ℕ → Poly → Poly
+scale_p c m empty = empty
+scale_p c m (more d n q) = ins (c *ℤ d) (join m n) (scale_p c m q)
 
-scaleP-tot : (c : ℤ) (m : List ℕ) (q : Poly) (ρ : List ℤ) → tot (scaleP c m q) ρ ≡ c *ℤ mono m ρ *ℤ tot q ρ
-scaleP-tot c m empty ρ = sym (*ℤ-zero (c *ℤ mono m ρ))
-scaleP-tot c m (more d n q) ρ =
-    ins-tot (c *ℤ d) (join m n) (scaleP c m q) ρ
-    ∙ ap₂ ◌+ℤ◌ (ap (λ t. c *ℤ d *ℤ t) (mono-join m n ρ) ∙ *ℤ-swap4 c d (mono m ρ) (mono n ρ)) (scaleP-tot c m q ρ)
+scale_p-tot : (c : ℤ) (m : List ℕ) (q : Poly) (ρ : List ℤ) → tot (scale_p c m q) ρ ≡ c *ℤ mono m ρ *ℤ tot q ρ
+scale_p-tot c m empty ρ = sym (*ℤ-zero (c *ℤ mono m ρ))
+scale_p-tot c m (more d n q) ρ =
+    ins-tot (c *ℤ d) (join m n) (scale_p c m q) ρ
+    ∙ ap₂ ◌+ℤ◌ (ap (λ t. c *ℤ d *ℤ t) (mono-join m n ρ) ∙ *ℤ-swap4 c d (mono m ρ) (mono n ρ)) (scale_p-tot c m q ρ)
     ∙ sym (*ℤ-+ℤ (c *ℤ mono m ρ) (d *ℤ mono n ρ) (tot q ρ))
 
-abbrev mulP : Poly → Poly → Poly
-mulP empty q = empty
-mulP (more c m p) q = addP (scaleP c m q) (mulP p q)
+abbrev mul_p : Poly → Poly → Poly
+mul_p empty q = empty
+mul_p (more c m p) q = add_p (scale_p c m q) (mul_p p q)
 
-mulP-tot : (p q : Poly) (ρ : List ℤ) → tot (mulP p q) ρ ≡ tot p ρ *ℤ tot q ρ
-mulP-tot empty q ρ = sym (zero-*ℤ (tot q ρ))
-mulP-tot (more c m p) q ρ =
-    addP-tot (scaleP c m q) (mulP p q) ρ
-    ∙ ap₂ ◌+ℤ◌ (scaleP-tot c m q ρ) (mulP-tot p q ρ)
+mul_p-tot : (p q : Poly) (ρ : List ℤ) → tot (mul_p p q) ρ ≡ tot p ρ *ℤ tot q ρ
+mul_p-tot empty q ρ = sym (zero-*ℤ (tot q ρ))
+mul_p-tot (more c m p) q ρ =
+    add_p-tot (scale_p c m q) (mul_p p q) ρ
+    ∙ ap₂ ◌+ℤ◌ (scale_p-tot c m q ρ) (mul_p-tot p q ρ)
     ∙ sym (+ℤ-*ℤ (c *ℤ mono m ρ) (tot p ρ) (tot q ρ))
 
 -- ---- the normal form of an expression
 abbrev pub norm : Ex → Poly
 norm (var i) = more (pos 1) (i ∷ []) empty
 norm (lit n) = keep (pos n) [] empty
-norm (a ⊕ b) = addP (norm a) (norm b)
-norm (a ⊖ b) = addP (norm a) (negP (norm b))
-norm (a ⊗ b) = mulP (norm a) (norm b)
+norm (a ⊕ b) = add_p (norm a) (norm b)
+norm (a ⊖ b) = add_p (norm a) (neg_p (norm b))
+norm (a ⊗ b) = mul_p (norm a) (norm b)
 
 pub norm-tot : (a : Ex) (ρ : List ℤ) → ev a ρ ≡ tot (norm a) ρ
 norm-tot (var i) ρ = sym (+ℤ_idr (pos 1 *ℤ (nth ρ i *ℤ pos 1)) ∙ one-*ℤ (nth ρ i *ℤ pos 1) ∙ *ℤ-1 (nth ρ i))
 norm-tot (lit n) ρ = sym (keep-tot (pos n) [] empty ρ ∙ +ℤ_idr (pos n *ℤ pos 1) ∙ *ℤ-1 (pos n))
-norm-tot (a ⊕ b) ρ = ap₂ ◌+ℤ◌ (norm-tot a ρ) (norm-tot b ρ) ∙ sym (addP-tot (norm a) (norm b) ρ)
+norm-tot (a ⊕ b) ρ = ap₂ ◌+ℤ◌ (norm-tot a ρ) (norm-tot b ρ) ∙ sym (add_p-tot (norm a) (norm b) ρ)
 norm-tot (a ⊖ b) ρ =
     ap₂ ◌-ℤ◌ (norm-tot a ρ) (norm-tot b ρ)
-    ∙ ap (λ t. tot (norm a) ρ +ℤ t) (sym (negP-tot (norm b) ρ))
-    ∙ sym (addP-tot (norm a) (negP (norm b)) ρ)
-norm-tot (a ⊗ b) ρ = ap₂ ◌*ℤ◌ (norm-tot a ρ) (norm-tot b ρ) ∙ sym (mulP-tot (norm a) (norm b) ρ)
+    ∙ ap (λ t. tot (norm a) ρ +ℤ t) (sym (neg_p-tot (norm b) ρ))
+    ∙ sym (add_p-tot (norm a) (neg_p (norm b)) ρ)
+norm-tot (a ⊗ b) ρ = ap₂ ◌*ℤ◌ (norm-tot a ρ) (norm-tot b ρ) ∙ sym (mul_p-tot (norm a) (norm b) ρ)

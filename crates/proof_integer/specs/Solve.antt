@@ -95,25 +95,25 @@ ringℤ n s e = all-intro n (Says (app n 0 s)) (λ ρ. same-says (app n 0 s) ρ 
 
 -- ---- consequences: each relation, multiplied out, is read as one of naturals, whose unknowns are the two parts of
 -- each monomial
--- a term c·z is hiT c z − loT c z
-abbrev loT : ℤ → ℤ → ℕ
-loT (pos c) z = c * dn z
-loT (negsuc c) z = suc c * up z
+-- a term c·z is hi_t c z − lo_t c z
+abbrev lo_t : ℤ → ℤ → ℕ
+lo_t (pos c) z = c * dn z
+lo_t (negsuc c) z = suc c * up z
 
-abbrev hiT : ℤ → ℤ → ℕ
-hiT (pos c) z = c * up z
-hiT (negsuc c) z = suc c * dn z
+abbrev hi_t : ℤ → ℤ → ℕ
+hi_t (pos c) z = c * up z
+hi_t (negsuc c) z = suc c * dn z
 
 -- a polynomial p is hi p − lo p
 abbrev lo : Poly → List ℤ → ℕ
 lo empty ρ = 0
-lo (more c m p) ρ = loT c (mono m ρ) + lo p ρ
+lo (more c m p) ρ = lo_t c (mono m ρ) + lo p ρ
 
 abbrev hi : Poly → List ℤ → ℕ
 hi empty ρ = 0
-hi (more c m p) ρ = hiT c (mono m ρ) + hi p ρ
+hi (more c m p) ρ = hi_t c (mono m ρ) + hi p ρ
 
-term-parts : (c z : ℤ) → up (c *ℤ z) + loT c z ≡ dn (c *ℤ z) + hiT c z
+term-parts : (c z : ℤ) → up (c *ℤ z) + lo_t c z ≡ dn (c *ℤ z) + hi_t c z
 term-parts (pos c) z = omega (arith, mul-parts (pos c) z)
 term-parts (negsuc c) z = omega (arith, mul-parts (negsuc c) z)
 
@@ -139,11 +139,11 @@ SaysN (a ≼ b) ρ = lo (norm (b ⊖ a)) ρ ≤ hi (norm (b ⊖ a)) ρ
 SaysN (a ≺ b) ρ = lo (norm (b ⊖ a)) ρ < hi (norm (b ⊖ a)) ρ
 SaysN never ρ = ⊥
 
-toN : (s : Rel) (ρ : List ℤ) → Says s ρ → SaysN s ρ
-toN (a ≋ b) ρ h = omega (arith, gap_parts a b ρ, parts h)
-toN (a ≼ b) ρ h = omega (arith, gap_parts a b ρ, le→parts h)
-toN (a ≺ b) ρ h = omega (arith, gap_parts a b ρ, lt→parts h)
-toN never ρ h = h
+to_n : (s : Rel) (ρ : List ℤ) → Says s ρ → SaysN s ρ
+to_n (a ≋ b) ρ h = omega (arith, gap_parts a b ρ, parts h)
+to_n (a ≼ b) ρ h = omega (arith, gap_parts a b ρ, le→parts h)
+to_n (a ≺ b) ρ h = omega (arith, gap_parts a b ρ, lt→parts h)
+to_n never ρ h = h
 
 from_n : (s : Rel) (ρ : List ℤ) → SaysN s ρ → Says s ρ
 from_n (a ≋ b) ρ h = by_parts _ _ (omega (arith, gap_parts a b ρ))
@@ -159,15 +159,15 @@ ImpN (h ∷ hs) g ρ = SaysN h ρ → ImpN hs g ρ
 abbrev pub MeansN : Seq → List ℤ → Type 0
 MeansN (hs ⊢ g) ρ = ImpN hs g ρ
 
-impN : (hs : List Rel) (g : Rel) (ρ : List ℤ) → ImpN hs g ρ → Imp hs g ρ
-impN [] g ρ r = from_n g ρ r
-impN (h ∷ hs) g ρ r = λ e. impN hs g ρ (r (toN h ρ e))
+imp_n : (hs : List Rel) (g : Rel) (ρ : List ℤ) → ImpN hs g ρ → Imp hs g ρ
+imp_n [] g ρ r = from_n g ρ r
+imp_n (h ∷ hs) g ρ r = λ e. imp_n hs g ρ (r (to_n h ρ e))
 
-meansN : (s : Seq) (ρ : List ℤ) → MeansN s ρ → Means s ρ
-meansN (hs ⊢ g) ρ r = impN hs g ρ r
+means_n : (s : Seq) (ρ : List ℤ) → MeansN s ρ → Means s ρ
+means_n (hs ⊢ g) ρ r = imp_n hs g ρ r
 
 -- The goal `never` asks for a contradiction. Where `omega` fails, it names values of the monomials' parts at which the
 -- goal is false.
 -- There may be at most 32 variables and hypotheses together.
 pub omegaℤ : (n : ℕ) (s : Exs n Seq) → All n (MeansN (app n 0 s)) → All n (Means (app n 0 s))
-omegaℤ n s r = all_map n (MeansN (app n 0 s)) (Means (app n 0 s)) (meansN (app n 0 s)) r
+omegaℤ n s r = all_map n (MeansN (app n 0 s)) (Means (app n 0 s)) (means_n (app n 0 s)) r

@@ -7,7 +7,7 @@ use Rattle.std.proofs.Math.Logic.{inl, inr}
 use Prim.Native.Nat.{ℕ, zero, suc, ◌+◌, ◌<◌}
 use Rattle.std.proofs.Math.Nat.{le_step}
 use Rattle.std.proofs.Math.Facts.{or_no}
-use Rattle.rules.specs.Notation.{anyBelow}
+use Rattle.rules.specs.Notation.{any_below}
 
 -- a test that holds is true, and one that fails is false
 pub holds : (b : Bool) → T b → b ≡ true
@@ -28,33 +28,33 @@ below_suc n Q before here i l = elim (eq-or-lt_of_le (le_of_suc-le-suc l)) [ inl
 
 -- only the places below n count
 pub any-cong : (n : ℕ) (test other : ℕ → Bool) → ((i : ℕ) → i < n → test i ≡ other i)
-    → anyBelow n test ≡ anyBelow n other
-unfolding anyBelow
+    → any_below n test ≡ any_below n other
+unfolding any_below
 any-cong zero test other h = refl
 any-cong (suc n) test other h = ap₂ ◌||◌ (any-cong n test other (λ i l. h i (le_step l))) (h n (lt-suc_self n))
 
 -- where no place below n meets a test, each fails it
-pub any_none : (n : ℕ) (test : ℕ → Bool) → T (not (anyBelow n test)) → (i : ℕ) → i < n → T (not (test i))
-unfolding anyBelow
+pub any_none : (n : ℕ) (test : ℕ → Bool) → T (not (any_below n test)) → (i : ℕ) → i < n → T (not (test i))
+unfolding any_below
 any_none zero test h = below-zero (λ i. T (not (test i)))
 any_none (suc n) test h =
-    let (before, here) = or_no (anyBelow n test) (test n) h in
+    let (before, here) = or_no (any_below n test) (test n) h in
     below_suc n (λ i. T (not (test i))) (any_none n test before) here
 
 -- ---- a loop that looks for a place that meets a test
 module _ (test : ℕ → Bool) where
-  pub any-start : anyBelow 0 test ≡ false
-  unfolding anyBelow
+  pub any-start : any_below 0 test ≡ false
+  unfolding any_below
   any-start = refl
 
-  pub any-more : {i : ℕ} → anyBelow i test ≡ false → test i ≡ false → anyBelow (i + 1) test ≡ false
-  unfolding anyBelow
+  pub any-more : {i : ℕ} → any_below i test ≡ false → test i ≡ false → any_below (i + 1) test ≡ false
+  unfolding any_below
   any-more {i} before here = rw (add-one, before) here
 
-  pub any_found : {i : ℕ} (n : ℕ) → i < n → test i ≡ true → anyBelow n test ≡ true
-  unfolding anyBelow
+  pub any_found : {i : ℕ} (n : ℕ) → i < n → test i ≡ true → any_below n test ≡ true
+  unfolding any_below
   any_found zero l here = absurd (not-suc-le-zero l)
   any_found {i} (suc n) l here = elim (eq-or-lt_of_le (le_of_suc-le-suc l)) [
-    | inl e ↦ rw (← e, here) (or-true (anyBelow i test))
+    | inl e ↦ rw (← e, here) (or-true (any_below i test))
     | inr k ↦ rw (any_found n k here) refl
   ]

@@ -9,17 +9,17 @@ use Rattle.std.proofs.Math.Facts.{or_no, ltb_no}
 use Rattle.rules.specs.declared.Shape.{Shape}
 use Rattle.rules.specs.declared.Kind.TheVariants.{Coefficient, Rhs, Start}
 use Rattle.rules.specs.Notation.{is_zero}
-use Rattle.rules.specs.Sheet.{Sheet, key_of, row_of, columnOf}
+use Rattle.rules.specs.Sheet.{Sheet, key_of, row_of, column_of}
 use Rattle.rules.specs.Ranges.{kind_at}
-use Rattle.rules.specs.Refusals.{noFigureAt, notAbove, badKey}
+use Rattle.rules.specs.Refusals.{no_figure_at, not_above, bad_key}
 
 -- a key gives its row and its column back
 pub key-parts : (row column : ℕ) → column < 64
-    → (row_of (key_of row column) ≡ row) × (columnOf (key_of row column) ≡ column)
+    → (row_of (key_of row column) ≡ row) × (column_of (key_of row column) ≡ column)
 key-parts row column l = omega arith
 
 -- and they give the key
-pub parts-key : (key : ℕ) → key_of (row_of key) (columnOf key) ≡ key
+pub parts-key : (key : ℕ) → key_of (row_of key) (column_of key) ≡ key
 parts-key key = omega arith
 
 -- in the row of limit i: `kind_at` matches on three `suc`, and 3 + i does not compute to them
@@ -52,12 +52,12 @@ nonzero v h = ne_eqb (nat_abs v) 0 (λ e. h (zero_of v e))
 
 -- ---- where a figure stands
 -- a figure's row is at most m + 2, and its column at most n + 1
-pub figure-at : (shape : Shape) (row column : ℕ) → noFigureAt shape row column ≡ false
+pub figure-at : (shape : Shape) (row column : ℕ) → no_figure_at shape row column ≡ false
     → (row ≤ shape.limits + 2) × (column ≤ shape.materials + 1)
-unfolding noFigureAt
+unfolding no_figure_at
 figure-at shape row column h =
     let n = shape.materials in
-    let t : T (not (noFigureAt shape row column)) = rw h tt in
+    let t : T (not (no_figure_at shape row column)) = rw h tt in
     let (outside, last) = or_no (ltb (shape.limits + 2) row || ltb (n + 1) column) (leb n column && leb row 2) t in
     let (r, c) = or_no (ltb (shape.limits + 2) row) (ltb (n + 1) column) outside in
     (ltb_no r, ltb_no c)
@@ -65,28 +65,28 @@ figure-at shape row column h =
 -- ---- where none does
 module _ (shape : Shape) (row column : ℕ) where
   -- past the materials, in the first three rows
-  pub past-materials : row ≤ 2 → shape.materials ≤ column → noFigureAt shape row column ≡ true
-  unfolding noFigureAt
+  pub past-materials : row ≤ 2 → shape.materials ≤ column → no_figure_at shape row column ≡ true
+  unfolding no_figure_at
   past-materials r l = rw (le-leb shape.materials column l, le-leb row 2 r, or-true)
 
   -- past the starts
-  pub past-starts : shape.materials + 1 < column → noFigureAt shape row column ≡ true
-  unfolding noFigureAt
+  pub past-starts : shape.materials + 1 < column → no_figure_at shape row column ≡ true
+  unfolding no_figure_at
   past-starts l = rw (lt-ltb (shape.materials + 1) column l, or-true)
 
   -- past the rows of the limits
-  pub past-limits : shape.limits + 2 < row → noFigureAt shape row column ≡ true
-  unfolding noFigureAt
+  pub past-limits : shape.limits + 2 < row → no_figure_at shape row column ≡ true
+  unfolding no_figure_at
   past-limits l = rw (lt-ltb (shape.limits + 2) row l)
 
 -- does the key of entry i stand for no figure?
-abbrev pub noFigureFor : Sheet → ℕ → Bool
-noFigureFor S i = noFigureAt S.sizes.shape (row_of (S.key i)) (columnOf (S.key i))
+abbrev pub no_figure_for : Sheet → ℕ → Bool
+no_figure_for S i = no_figure_at S.sizes.shape (row_of (S.key i)) (column_of (S.key i))
 
 -- a good key stands for one
-pub good-key : (S : Sheet) (i : ℕ) → badKey S i ≡ false → noFigureFor S i ≡ false
-unfolding badKey
-good-key S i h = or_left (noFigureFor S i) (notAbove S i) h
+pub good-key : (S : Sheet) (i : ℕ) → bad_key S i ≡ false → no_figure_for S i ≡ false
+unfolding bad_key
+good-key S i h = or_left (no_figure_for S i) (not_above S i) h
   where
     or_left : (a b : Bool) → a || b ≡ false → a ≡ false
     or_left true b h = h

@@ -7,7 +7,7 @@ use Rattle.std.proofs.Math.Option.{Option, none, some}
 use Rattle.std.proofs.Math.Logic.{inl, inr}
 use Prim.Native.Nat.{ℕ, zero, suc, ◌+◌, ◌<◌}
 use Rattle.std.proofs.Math.Nat.{le_step}
-use Rattle.rules.specs.Refusals.{Numbered, refuse, ◌otherwise◌, firstBelow}
+use Rattle.rules.specs.Refusals.{Numbered, refuse, ◌otherwise◌, first_below}
 
 -- ---- one refusal, with its number and its place
 module _ (number place : ℕ) where
@@ -32,37 +32,37 @@ handed-on b h = rw h
 -- ---- the first place
 -- only the places below n count
 pub first_cong : (n : ℕ) (test other : ℕ → Option Numbered) → ((i : ℕ) → i < n → test i ≡ other i)
-    → firstBelow n test ≡ firstBelow n other
-unfolding firstBelow
+    → first_below n test ≡ first_below n other
+unfolding first_below
 first_cong zero test other h = refl
 first_cong (suc n) test other h =
     ap₂ ◌otherwise◌ (first_cong n test other (λ i l. h i (le_step l))) (h n (lt-suc_self n))
 
 module _ (test : ℕ → Option Numbered) where
-  pub first-start : firstBelow 0 test ≡ none
-  unfolding firstBelow
+  pub first-start : first_below 0 test ≡ none
+  unfolding first_below
   first-start = refl
 
-  pub first_more : {j : ℕ} → firstBelow j test ≡ none → test j ≡ none → firstBelow (j + 1) test ≡ none
-  unfolding firstBelow ◌otherwise◌
+  pub first_more : {j : ℕ} → first_below j test ≡ none → test j ≡ none → first_below (j + 1) test ≡ none
+  unfolding first_below ◌otherwise◌
   first_more {j} before here = rw (add-one, before) here
 
-  pub first_found : {j : ℕ} {r : Numbered} (n : ℕ) → j < n → firstBelow j test ≡ none → test j ≡ some r
-      → firstBelow n test ≡ some r
-  unfolding firstBelow ◌otherwise◌
+  pub first_found : {j : ℕ} {r : Numbered} (n : ℕ) → j < n → first_below j test ≡ none → test j ≡ some r
+      → first_below n test ≡ some r
+  unfolding first_below ◌otherwise◌
   first_found zero l before here = absurd (not-suc-le-zero l)
   first_found {j} (suc n) l before here = elim (eq-or-lt_of_le (le_of_suc-le-suc l)) [
     | inl e ↦ rw (← e, before) here
     | inr k ↦ rw (first_found n k before here)
   ]
 
-  pub first-end : {j n : ℕ} → j ≡ n → firstBelow j test ≡ none → firstBelow n test ≡ none
+  pub first-end : {j n : ℕ} → j ≡ n → first_below j test ≡ none → first_below n test ≡ none
   first-end e h = rw e at h
 
 -- ---- the same for one refusal, tested at each place
 module _ (number : ℕ) (bad : ℕ → Bool) where
   abbrev pub scan : ℕ → Option Numbered
-  scan n = firstBelow n (λ i. refuse number i (bad i))
+  scan n = first_below n (λ i. refuse number i (bad i))
 
   pub scan-more : {j : ℕ} → scan j ≡ none → bad j ≡ false → scan (j + 1) ≡ none
   scan-more {j} before here = first_more (λ i. refuse number i (bad i)) before (refuse-no number j here)

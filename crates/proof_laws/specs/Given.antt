@@ -7,8 +7,8 @@ use Rattle.std.proofs.Math.Option.{Option, none, some}
 use Prim.Native.Nat.{ℕ, zero, suc, ◌<◌, ◌≤◌}
 use Rattle.std.proofs.Common.{arith}
 use Rattle.std.proofs.Math.Facts.{leb_yes}
-use Rattle.rules.specs.Refusals.{Numbered, refuse, ◌otherwise◌, firstBelow, layoutRefusal}
-use Rattle.rules.specs.Refusals.{sizesRefusal, keyRefusal, valueRefusal, boundRefusal}
+use Rattle.rules.specs.Refusals.{Numbered, refuse, ◌otherwise◌, first_below, layout_refusal}
+use Rattle.rules.specs.Refusals.{sizes_refusal, key_refusal, value_refusal, bound_refusal}
 
 -- where the refusal with number c is given, A holds
 abbrev pub Given : ℕ → Type 0 → Option Numbered → Type 0
@@ -23,10 +23,10 @@ module _ (c : ℕ) (A : Type 0) where
   otherwise-given (some r) b first second = first
 
   pub first-given : (n : ℕ) (test : ℕ → Option Numbered) → ((i : ℕ) → Given c A (test i))
-      → Given c A (firstBelow n test)
-  unfolding firstBelow
+      → Given c A (first_below n test)
+  unfolding first_below
   first-given zero test h = tt
-  first-given (suc n) test h = otherwise-given (firstBelow n test) (test n) (first-given n test h) (λ _. h n)
+  first-given (suc n) test h = otherwise-given (first_below n test) (test n) (first-given n test h) (λ _. h n)
 
   pub refuse-given : (number place : ℕ) (test : Bool) → (T test → number ≡ c → A)
       → Given c A (refuse number place test)
@@ -40,6 +40,6 @@ module _ (c : ℕ) (A : Type 0) where
       let small : number ≤ 7 = leb_yes few in
       refuse-given number place test (λ _ e. absurd (omega arith))
 
-  pub layout-given : 7 < c → (s : List ℕ) → Given c A (layoutRefusal s)
-  unfolding layoutRefusal sizesRefusal keyRefusal valueRefusal boundRefusal
+  pub layout-given : 7 < c → (s : List ℕ) → Given c A (layout_refusal s)
+  unfolding layout_refusal sizes_refusal key_refusal value_refusal bound_refusal
   layout-given above s = search (otherwise-given, first-given, refuse-small) depth 20

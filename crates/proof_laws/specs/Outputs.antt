@@ -9,28 +9,28 @@ use Rattle.std.proofs.Math.ListN.{drop}
 use Rattle.rules.specs.declared.Output.{Output}
 use Rattle.rules.specs.declared.Refusal.{Refusal}
 use Rattle.rules.specs.Refusals.{Numbered, numbered}
-use Rattle.rules.specs.Output.{wrote, writing, writingOf, lentAfter, shortBuffer, Writes}
+use Rattle.rules.specs.Output.{wrote, writing, writing_of, lent_after, short_buffer, Writes}
 use Rattle.proof_laws.specs.FirstPlace.{refuse-yes, refuse-no}
 
 module _ {bytes : List ℕ} {met : Option Numbered} {lent : List ℕ} where
   pub writes-refused : (r : Refusal) → met ≡ some (numbered r) → Writes bytes met lent lent (Output.Refused r)
-  unfolding writing writingOf lentAfter
-  writes-refused r m = record { answered = sym (ap (writingOf bytes) m); buffer = refl }
+  unfolding writing writing_of lent_after
+  writes-refused r m = record { answered = sym (ap (writing_of bytes) m); buffer = refl }
 
   pub writes-all : {after : List ℕ} {n : ℕ} → met ≡ none → n ≡ length bytes → after ≡ bytes ++ drop (length bytes) lent
       → Writes bytes met lent after (Output.Wrote n)
-  unfolding writing writingOf lentAfter
+  unfolding writing writing_of lent_after
   writes-all m e b = record {
-    answered = ap wrote e ∙ sym (ap (writingOf bytes) m);
+    answered = ap wrote e ∙ sym (ap (writing_of bytes) m);
     buffer = b ∙ ap (λ (n : ℕ). bytes ++ drop n lent) (sym e);
   }
 
 -- ---- a buffer that is too short for w bytes, and one that is not
 module _ (number : ℕ) (bytes : List ℕ) {room w : ℕ} (wanted : length bytes ≡ w) where
-  pub too_short : room < w → shortBuffer number bytes room ≡ some (record { number = number; place = w })
-  unfolding shortBuffer
+  pub too_short : room < w → short_buffer number bytes room ≡ some (record { number = number; place = w })
+  unfolding short_buffer
   too_short l = rw (wanted, lt-ltb room w l) (refuse-yes number w refl)
 
-  pub long-enough : w ≤ room → shortBuffer number bytes room ≡ none
-  unfolding shortBuffer
+  pub long-enough : w ≤ room → short_buffer number bytes room ≡ none
+  unfolding short_buffer
   long-enough l = rw (wanted, le-ltb room w l) (refuse-no number w refl)

@@ -4,23 +4,23 @@ use Rattle.std.proofs.Math.Option.{none}
 use Rattle.std.proofs.lemmas.Bool.{not-false}
 use Rattle.std.proofs.Common.{eqb-true}
 use Rattle.std.proofs.Math.Facts.{T_not-not}
-use Rattle.rules.specs.Sheet.{Sheet, sheetLength, sheetOf, table_of}
-use Rattle.rules.specs.Ranges.{dimensionsInRange, parametersInRange}
-use Rattle.rules.specs.Refusals.{badKey, badValue, crossed}
-use Rattle.rules.specs.Refusals.{sizesRefusal, keyRefusal, valueRefusal, boundRefusal, layoutRefusal}
+use Rattle.rules.specs.Sheet.{Sheet, sheet_length, sheet_of, table_of}
+use Rattle.rules.specs.Ranges.{dimensions_in_range, parameters_in_range}
+use Rattle.rules.specs.Refusals.{bad_key, bad_value, crossed}
+use Rattle.rules.specs.Refusals.{sizes_refusal, key_refusal, value_refusal, bound_refusal, layout_refusal}
 use Rattle.proof_laws.specs.NotRefused.{otherwise-none, refuse-none, refuse-false, first-none}
 
 pub record Passed (S : Sheet) (bytes : ℕ) : Type 0 where
-  pub dimensions : T (dimensionsInRange S.sizes.shape S.entries)
-  pub long : bytes ≡ sheetLength S.entries
-  pub parameters : T (parametersInRange S.sizes)
-  pub keys : (i : ℕ) → i < S.entries → badKey S i ≡ false
-  pub values : (i : ℕ) → i < S.entries → T (not (badValue S i))
+  pub dimensions : T (dimensions_in_range S.sizes.shape S.entries)
+  pub long : bytes ≡ sheet_length S.entries
+  pub parameters : T (parameters_in_range S.sizes)
+  pub keys : (i : ℕ) → i < S.entries → bad_key S i ≡ false
+  pub values : (i : ℕ) → i < S.entries → T (not (bad_value S i))
   pub bounds : (j : ℕ) → j < S.sizes.shape.materials → T (not (crossed (table_of S) j))
 
 -- the chain of refusals 1 to 7 (T7.3), link by link
-pub passed : (s : List ℕ) → layoutRefusal s ≡ none → Passed (sheetOf s) (length s)
-unfolding layoutRefusal sizesRefusal keyRefusal valueRefusal boundRefusal
+pub passed : (s : List ℕ) → layout_refusal s ≡ none → Passed (sheet_of s) (length s)
+unfolding layout_refusal sizes_refusal key_refusal value_refusal bound_refusal
 passed s h =
     let (short, h) = otherwise-none _ _ h in
     let (sizes, h) = otherwise-none _ _ h in

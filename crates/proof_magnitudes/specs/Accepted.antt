@@ -18,10 +18,10 @@ use Rattle.rules.specs.declared.Kind.TheVariants.{Coefficient, Rhs, Start}
 use Rattle.rules.specs.declared.Range.{Range}
 use Rattle.rules.specs.declared.Shape.{Shape}
 use Rattle.rules.specs.Problem.{Problem}
-use Rattle.rules.specs.Sheet.{Sheet, sheetOf, key_of, row_of, columnOf, valueUnder, table_of, problemFrom, problem}
+use Rattle.rules.specs.Sheet.{Sheet, sheet_of, key_of, row_of, column_of, value_under, table_of, problem_from, problem}
 use Rattle.rules.specs.Ranges.{◌from◌to◌, ranges, index_of, range_of, kind_at, in_range}
-use Rattle.rules.specs.Ranges.{between, dimensionsInRange, parametersInRange}
-use Rattle.rules.specs.Refusals.{valueBad, badValue, crossed, layoutRefusal}
+use Rattle.rules.specs.Ranges.{between, dimensions_in_range, parameters_in_range}
+use Rattle.rules.specs.Refusals.{value_bad, bad_value, crossed, layout_refusal}
 use Rattle.proof_laws.specs.Entries.{key-parts, coefficient-kind, rhs-kind, start-kind}
 use Rattle.proof_laws.specs.Agreeing.{Agree}
 use Rattle.proof_laws.specs.Passed.{Passed, passed}
@@ -46,27 +46,27 @@ pub record Accepted (P : Problem) (k : ℕ) : Type 0 where
   pub coefficient-in : (i : ℕ) → i < P.limits → (j : ℕ) → j < P.materials → Bnd (P.coefficient i j) 1000
   pub rhs-in : (i : ℕ) → i < P.limits → Bnd (P.rhs i) 32000000
   -- 0 ≤ s_i ≤ 2³⁰: a start that has no entry is 0 too
-  pub start-sign : (i : ℕ) → i < P.limits → pos 0 ≤ℤ P.startingMultiplier i
-  pub start-top : (i : ℕ) → i < P.limits → P.startingMultiplier i ≤ℤ pos 1073741824
+  pub start-sign : (i : ℕ) → i < P.limits → pos 0 ≤ℤ P.starting_multiplier i
+  pub start-top : (i : ℕ) → i < P.limits → P.starting_multiplier i ≤ℤ pos 1073741824
 
 -- a test of several parts: each part, and the order that it stands for
 ruleset parts = (and_l, and_r, leb_yes, le_z_yes)
 
 -- ---- ranges by row and column
-abbrev rangeAt : Shape → ℕ → ℕ → Range
-rangeAt shape row column = range_of (kind_at shape row column)
+abbrev range_at : Shape → ℕ → ℕ → Range
+range_at shape row column = range_of (kind_at shape row column)
 
 -- in the row of limit i
 module _ (shape : Shape) (i : ℕ) where
-  coefficient-range : (j : ℕ) → j < shape.materials → rangeAt shape (3 + i) j ≡ Coefficient from neg 1000 to pos 1000
+  coefficient-range : (j : ℕ) → j < shape.materials → range_at shape (3 + i) j ≡ Coefficient from neg 1000 to pos 1000
   unfolding range_of ranges index_of
   coefficient-range j l = rw (coefficient-kind shape i j l)
 
-  rhs-range : rangeAt shape (3 + i) shape.materials ≡ Rhs from neg 32000000 to pos 32000000
+  rhs-range : range_at shape (3 + i) shape.materials ≡ Rhs from neg 32000000 to pos 32000000
   unfolding range_of ranges index_of
   rhs-range = rw (rhs-kind shape i)
 
-  start-range : rangeAt shape (3 + i) (shape.materials + 1) ≡ Start from pos 1 to pos 1073741824
+  start-range : range_at shape (3 + i) (shape.materials + 1) ≡ Start from pos 1 to pos 1073741824
   unfolding range_of ranges index_of
   start-range = rw (start-kind shape i)
 
@@ -78,14 +78,14 @@ record Within (r : Range) (v : ℤ) : Type 0 where
 -- ---- figures
 -- every fact of what stands under a key, by cases: 0, or the value of an entry with that key
 module _ (S : Sheet) (key : ℕ) (Q : ℤ → Type 0) (absent : Q (pos 0)) where
-  value-cases : (e : ℕ) → ((i : ℕ) → i < e → S.key i ≡ key → Q (S.value i)) → Q (valueUnder S e key)
-  unfolding valueUnder
+  value-cases : (e : ℕ) → ((i : ℕ) → i < e → S.key i ≡ key → Q (S.value i)) → Q (value_under S e key)
+  unfolding value_under
   value-cases zero present = absent
   value-cases (suc e) present =
       last (eqb (S.key e) key) (λ t. present e (lt-suc_self e) (eqb_yes t))
       (value-cases e (λ i l. present i (le_step l)))
     where
-      last : (b : Bool) → (T b → Q (S.value e)) → Q (valueUnder S e key) → Q (cond b (S.value e) (valueUnder S e key))
+      last : (b : Bool) → (T b → Q (S.value e)) → Q (value_under S e key) → Q (cond b (S.value e) (value_under S e key))
       last true here before = here tt
       last false here before = before
 
@@ -97,18 +97,18 @@ module _ (S : Sheet) {bytes : ℕ} (h : Passed S bytes) where
   n = shape.materials
 
   -- the value of an entry lies in the range at its row and column
-  value_in : (i : ℕ) → i < S.entries → Within (rangeAt shape (row_of (S.key i)) (columnOf (S.key i))) (S.value i)
-  unfolding badValue valueBad in_range
+  value_in : (i : ℕ) → i < S.entries → Within (range_at shape (row_of (S.key i)) (column_of (S.key i))) (S.value i)
+  unfolding bad_value value_bad in_range
   value_in i l =
-      let r = rangeAt shape (row_of (S.key i)) (columnOf (S.key i)) in
+      let r = range_at shape (row_of (S.key i)) (column_of (S.key i)) in
       let (nonzero, good) = or_no (is_zero (S.value i)) (not (in_range r (S.value i))) (h.values i l) in
       search (T_not-not, parts)
 
   module _ (row column : ℕ) (l : column ≤ n + 1) where
     -- every fact of a figure, by cases: 0, or a value in the range at its row and column
-    figure-cases : (Q : ℤ → Type 0) → Q (pos 0) → ((v : ℤ) → Within (rangeAt shape row column) v → Q v)
+    figure-cases : (Q : ℤ → Type 0) → Q (pos 0) → ((v : ℤ) → Within (range_at shape row column) v → Q v)
         → Q (table_of S (key_of row column))
-    unfolding dimensionsInRange between
+    unfolding dimensions_in_range between
     figure-cases Q absent present =
         let few : n ≤ 32 = search parts in
         let (row_back, column-back) = key-parts row column (omega arith) in
@@ -116,14 +116,14 @@ module _ (S : Sheet) {bytes : ℕ} (h : Passed S bytes) where
         (λ i k e. present (S.value i) (rw (e, row_back, column-back) at (value_in i k)))
 
     -- a range from −a to a holds 0 too
-    figure-bnd : {kind : Kind} (a : ℕ) → rangeAt shape row column ≡ kind from neg a to pos a
+    figure-bnd : {kind : Kind} (a : ℕ) → range_at shape row column ≡ kind from neg a to pos a
         → Bnd (table_of S (key_of row column)) a
     figure-bnd a e =
         figure-cases (λ v. Bnd v a) (bnd-of (pos 0) zero-le)
         (λ v w. let s = rw e at w in bnd-between s.low s.high)
 
   ranged : Accepted (problem S) S.sizes.steps
-  unfolding problemFrom dimensionsInRange parametersInRange between kind_at range_of ranges index_of crossed
+  unfolding problem_from dimensions_in_range parameters_in_range between kind_at range_of ranges index_of crossed
   ranged =
       let sizes = h.dimensions in
       let parameters = h.parameters in
@@ -153,8 +153,8 @@ module _ (S : Sheet) {bytes : ℕ} (h : Passed S bytes) where
       }
 
 -- Where none of refusals 1 to 7 is given, the problem of the sheet and its step count lie in their ranges.
-pub accepted : (s : List ℕ) → layoutRefusal s ≡ none → Accepted (problem (sheetOf s)) (sheetOf s).sizes.steps
-accepted s h = ranged (sheetOf s) (passed s h)
+pub accepted : (s : List ℕ) → layout_refusal s ≡ none → Accepted (problem (sheet_of s)) (sheet_of s).sizes.steps
+accepted s h = ranged (sheet_of s) (passed s h)
 
 -- ---- problems that agree lie in the same ranges
 pub accepted-same : {P Q : Problem} {k : ℕ} → Agree P Q → Accepted Q k → Accepted P k
@@ -175,8 +175,8 @@ accepted-same {P} {Q} same a = record {
   coefficient-in = λ i h j l.
       rw (same.coefficient i j (limit h) (material l)) (a.coefficient-in i (limit h) j (material l));
   rhs-in = λ i h. rw (same.rhs i (limit h)) (a.rhs-in i (limit h));
-  start-sign = λ i h. rw (same.startingMultiplier i (limit h)) (a.start-sign i (limit h));
-  start-top = λ i h. rw (same.startingMultiplier i (limit h)) (a.start-top i (limit h));
+  start-sign = λ i h. rw (same.starting_multiplier i (limit h)) (a.start-sign i (limit h));
+  start-top = λ i h. rw (same.starting_multiplier i (limit h)) (a.start-top i (limit h));
 }
   where
     material : {j : ℕ} → j < P.materials → j < Q.materials

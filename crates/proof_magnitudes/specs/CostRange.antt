@@ -4,24 +4,24 @@ use Rattle.std.proofs.Math.IntN.{neg_ℤ}
 use Rattle.std.specs.Int.Signed.{lt_z, lt_z_yes, lt_z_no}
 use Rattle.proof_integer.specs.Order.{<ℤ→≤ℤ, negℤ-≤ℤ, *ℤ-mono-l, pos-nonneg}
 use Rattle.proof_integer.specs.Ring.{neg-*ℤ, *ℤ-neg, one-*ℤ}
-use Rattle.proof_integer.specs.Sum.{sumTo-neg}
-use Rattle.rules.specs.Problem.{Problem, costOf}
-use Rattle.rules.specs.Step.{greatestCost, cheapestCost}
+use Rattle.proof_integer.specs.Sum.{sum_to-neg}
+use Rattle.rules.specs.Problem.{Problem, cost_of}
+use Rattle.rules.specs.Step.{greatest_cost, cheapest_cost}
 use Rattle.proof_magnitudes.specs.Minimal.{AllMinimal, choice-minimal, rule-minimal, WithinBounds, sum-least}
 
 module _ (P : Problem) where
   -- the ends of the bounds at which material j costs least, and most
-  abbrev pub cheapestEnd : ℕ → ℤ
-  cheapestEnd j = cond (lt_z (P.cost j) (pos 0)) (P.most j) (P.least j)
+  abbrev pub cheapest_end : ℕ → ℤ
+  cheapest_end j = cond (lt_z (P.cost j) (pos 0)) (P.most j) (P.least j)
 
-  abbrev pub greatestEnd : ℕ → ℤ
-  greatestEnd j = cond (lt_z (pos 0) (P.cost j)) (P.most j) (P.least j)
+  abbrev pub greatest_end : ℕ → ℤ
+  greatest_end j = cond (lt_z (pos 0) (P.cost j)) (P.most j) (P.least j)
 
   -- they minimise the costs c, and −c
-  pub cheapest-minimal : AllMinimal P P.cost cheapestEnd
+  pub cheapest-minimal : AllMinimal P P.cost cheapest_end
   cheapest-minimal j _ = rule-minimal (P.cost j) (P.least j) (P.most j)
 
-  pub greatest-minimal : AllMinimal P (λ j. neg_ℤ (P.cost j)) greatestEnd
+  pub greatest-minimal : AllMinimal P (λ j. neg_ℤ (P.cost j)) greatest_end
   greatest-minimal j _ =
       choice-minimal (lt_z (pos 0) (P.cost j)) (neg_ℤ (P.cost j)) (P.least j) (P.most j)
       (λ t. (negℤ-≤ℤ (P.cost j) (pos 0)).1 (<ℤ→≤ℤ (lt_z_yes t)))
@@ -29,25 +29,25 @@ module _ (P : Problem) where
 
   module _ (d : ℤ) (y : ℕ → ℤ) (within : WithinBounds P d y) where
     -- d·cheapest ≤ c·y
-    pub cost-above : (d *ℤ cheapestCost P) ≤ℤ costOf P y
-    unfolding cheapestCost costOf
-    cost-above = sum-least P P.cost cheapestEnd cheapest-minimal d y within
+    pub cost-above : (d *ℤ cheapest_cost P) ≤ℤ cost_of P y
+    unfolding cheapest_cost cost_of
+    cost-above = sum-least P P.cost cheapest_end cheapest-minimal d y within
 
     -- c·y ≤ d·greatest
-    pub cost-below : costOf P y ≤ℤ (d *ℤ greatestCost P)
-    unfolding greatestCost costOf
+    pub cost-below : cost_of P y ≤ℤ (d *ℤ greatest_cost P)
+    unfolding greatest_cost cost_of
     cost-below =
         (negℤ-≤ℤ _ _).0
-        (simp (neg-*ℤ, sumTo-neg, *ℤ-neg) at
-        (sum-least P (λ j. neg_ℤ (P.cost j)) greatestEnd greatest-minimal d y within))
+        (simp (neg-*ℤ, sum_to-neg, *ℤ-neg) at
+        (sum-least P (λ j. neg_ℤ (P.cost j)) greatest_end greatest-minimal d y within))
 
 -- z lies from D times the cheapest to D times the greatest cost
 pub record InCostRange (P : Problem) (z : ℤ) : Type 0 where
-  pub above : (pos P.scale *ℤ cheapestCost P) ≤ℤ z
-  pub below : z ≤ℤ (pos P.scale *ℤ greatestCost P)
+  pub above : (pos P.scale *ℤ cheapest_cost P) ≤ℤ z
+  pub below : z ≤ℤ (pos P.scale *ℤ greatest_cost P)
 
 -- as D times the cost of whole amounts within the bounds does
-pub cost-in-range : (P : Problem) (x : ℕ → ℤ) → WithinBounds P (pos 1) x → InCostRange P (pos P.scale *ℤ costOf P x)
+pub cost-in-range : (P : Problem) (x : ℕ → ℤ) → WithinBounds P (pos 1) x → InCostRange P (pos P.scale *ℤ cost_of P x)
 cost-in-range P x within = record {
   above = *ℤ-mono-l (pos-nonneg P.scale) (rw one-*ℤ at (cost-above P (pos 1) x within));
   below = *ℤ-mono-l (pos-nonneg P.scale) (rw one-*ℤ at (cost-below P (pos 1) x within));

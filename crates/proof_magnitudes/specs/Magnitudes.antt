@@ -7,12 +7,12 @@ use Rattle.std.specs.Int.Signed.{le_z_yes}
 use Rattle.std.specs.Int.{w64}
 use Rattle.proof_integer.specs.Order.{≤ℤ-trans}
 use Rattle.proof_integer.specs.Range.{Bnd, ◌b+◌, ◌b-◌, ◌b*◌, bnd-of, bnd-sfits, bnd-between}
-use Rattle.proof_integer.specs.Sum.{sumTo-bnd}
+use Rattle.proof_integer.specs.Sum.{sum_to-bnd}
 use Rattle.rules.specs.Notation.{sum_to}
-use Rattle.rules.specs.Problem.{Problem, costOf, load_of}
-use Rattle.rules.specs.Step.{reducedCost, residual, dualValue}
+use Rattle.rules.specs.Problem.{Problem, cost_of, load_of}
+use Rattle.rules.specs.Step.{reduced_cost, residual, dual_value}
 use Rattle.proof_magnitudes.specs.Minimal.{minimal-between, AllMinimal}
-use Rattle.proof_magnitudes.specs.CostRange.{greatestEnd, greatest-minimal}
+use Rattle.proof_magnitudes.specs.CostRange.{greatest_end, greatest-minimal}
 use Rattle.proof_magnitudes.specs.Accepted.{Accepted}
 
 -- |z| ≤ B, and z fits 64 signed bits
@@ -31,7 +31,7 @@ fit t h = record { magnitude = h; fits = bnd-sfits t h }
 pub record CostMagnitudes (P : Problem) (x : ℕ → ℤ) (B : ℕ) : Type 0 where
   pub term : (j : ℕ) → j < P.materials → Fits64 (P.cost j *ℤ x j) (10000 * B)
   pub sum : (n : ℕ) → n ≤ P.materials → Fits64 (sum_to n (λ j. P.cost j *ℤ x j)) (32 * (10000 * B))
-  pub scaled : Fits64 (pos P.scale *ℤ costOf P x) (1024 * (32 * (10000 * B)))
+  pub scaled : Fits64 (pos P.scale *ℤ cost_of P x) (1024 * (32 * (10000 * B)))
 
 -- What a step forms from the multipliers M and the amounts x.
 pub record StepMagnitudes (P : Problem) (M x : ℕ → ℤ) : Type 0 where
@@ -42,7 +42,7 @@ pub record StepMagnitudes (P : Problem) (M x : ℕ → ℤ) : Type 0 where
       → Fits64 (sum_to m (λ i. M i *ℤ P.coefficient i j)) 17179869184000
   pub reduced-part : (m j : ℕ) → m ≤ P.limits → j < P.materials
       → Fits64 (pos P.scale *ℤ P.cost j +ℤ sum_to m (λ i. M i *ℤ P.coefficient i j)) 17179879424000
-  pub reduced-cost : (j : ℕ) → j < P.materials → Fits64 (reducedCost P M j) 17179879424000
+  pub reduced-cost : (j : ℕ) → j < P.materials → Fits64 (reduced_cost P M j) 17179879424000
   -- T4.3, the amount of material j
   pub amount : (j : ℕ) → j < P.materials → Fits64 (x j) 1000
   -- T4.4, the residual of limit i: Σ_j a_ij·x_j − b_i
@@ -55,10 +55,10 @@ pub record StepMagnitudes (P : Problem) (M x : ℕ → ℤ) : Type 0 where
   pub dual-term : (i : ℕ) → i < P.limits → Fits64 (M i *ℤ residual P x i) 68719476736000000
   pub dual-sum : (m : ℕ) → m ≤ P.limits → Fits64 (sum_to m (λ i. M i *ℤ residual P x i)) 1099511627776000000
   pub dual-part : (m : ℕ) → m ≤ P.limits
-      → Fits64 (pos P.scale *ℤ costOf P x +ℤ sum_to m (λ i. M i *ℤ residual P x i)) 1099511955456000000
-  pub dual-value : Fits64 (dualValue P M x) 1099511955456000000
+      → Fits64 (pos P.scale *ℤ cost_of P x +ℤ sum_to m (λ i. M i *ℤ residual P x i)) 1099511955456000000
+  pub dual-value : Fits64 (dual_value P M x) 1099511955456000000
   -- T4.6, the greatest cost
-  pub greatest-cost : CostMagnitudes P (greatestEnd P) 1000
+  pub greatest-cost : CostMagnitudes P (greatest_end P) 1000
   -- T4.7, the multiplier of limit i before it is cut at 0: M_i + p·residual_i
   pub scaled-residual : (i : ℕ) → i < P.limits → Fits64 (pos P.numerator *ℤ residual P x i) 65536000000
   pub uncut : (i : ℕ) → i < P.limits → Fits64 (M i +ℤ pos P.numerator *ℤ residual P x i) 66609741824
@@ -66,7 +66,7 @@ pub record StepMagnitudes (P : Problem) (M x : ℕ → ℤ) : Type 0 where
 -- a sum of the first n of some terms, of which there are at most N, each at most B
 over : {N B terms : ℕ} → terms ≤ N → (f : ℕ → ℤ) → ((j : ℕ) → j < terms → Bnd (f j) B)
     → (n : ℕ) → n ≤ terms → Bnd (sum_to n f) (N * B)
-over few f h n l = sumTo-bnd n f (le_trans l few) (λ j k. h j (lt_of_lt_of_le k l))
+over few f h n l = sum_to-bnd n f (le_trans l few) (λ j k. h j (lt_of_lt_of_le k l))
 
 module _ {P : Problem} {k : ℕ} (a : Accepted P k) where
   scale-bnd : Bnd (pos P.scale) 1024
@@ -84,7 +84,7 @@ module _ {P : Problem} {k : ℕ} (a : Accepted P k) where
   -- ---- costs, of amounts up to those that 4,096 steps add up to
   pub cost-magnitudes : {B : ℕ} (x : ℕ → ℤ) → B ≤ 4096000 → ((j : ℕ) → j < P.materials → Bnd (x j) B)
       → CostMagnitudes P x B
-  unfolding costOf
+  unfolding cost_of
   cost-magnitudes {B} x few x-in = record {
     term = λ j l. fit (lt→ltb (10000 * B) (2 ^ 63) (omega arith)) (terms j l);
     sum = λ n l. fit (lt→ltb (32 * (10000 * B)) (2 ^ 63) (omega arith)) (over a.materials-few _ terms n l);
@@ -123,11 +123,11 @@ module _ {P : Problem} {k : ℕ} (a : Accepted P k) where
     step-cost-magnitudes = cost-magnitudes x (lit≤ tt) x-in
 
     dual-part-bnd : (m : ℕ) → m ≤ P.limits
-        → Bnd (pos P.scale *ℤ costOf P x +ℤ sum_to m (λ i. M i *ℤ residual P x i)) 1099511955456000000
+        → Bnd (pos P.scale *ℤ cost_of P x +ℤ sum_to m (λ i. M i *ℤ residual P x i)) 1099511955456000000
     dual-part-bnd m h = step-cost-magnitudes.scaled.magnitude b+ dual-bnd m h
 
     pub step-magnitudes : StepMagnitudes P M x
-    unfolding reducedCost dualValue
+    unfolding reduced_cost dual_value
     step-magnitudes = record {
       scaled-cost = λ j l. fit tt (scale-bnd b* a.cost-in j l);
       reduced-term = λ i j h l. fit tt (M-in i h b* a.coefficient-in i h j l);
@@ -143,7 +143,7 @@ module _ {P : Problem} {k : ℕ} (a : Accepted P k) where
       dual-sum = λ m l. fit tt (dual-bnd m l);
       dual-part = λ m l. fit tt (dual-part-bnd m l);
       dual-value = fit tt (dual-part-bnd P.limits (le_refl _));
-      greatest-cost = cost-magnitudes (greatestEnd P) (lit≤ tt) (amounts-bnd (greatest-minimal P));
+      greatest-cost = cost-magnitudes (greatest_end P) (lit≤ tt) (amounts-bnd (greatest-minimal P));
       scaled-residual = λ i l. fit tt (numerator-bnd b* residual-bnd x x-in i l);
       uncut = λ i l. fit tt (M-in i l b+ numerator-bnd b* residual-bnd x x-in i l);
     }

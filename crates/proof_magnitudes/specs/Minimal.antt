@@ -7,7 +7,7 @@ use Rattle.std.specs.Int.Signed.{lt_z, lt_z_yes, lt_z_no}
 use Rattle.proof_integer.specs.Order.{≡→≤ℤ, <ℤ→≤ℤ, gap-mul}
 use Rattle.proof_integer.specs.Ring.{one-*ℤ}
 use Rattle.proof_integer.specs.Solve.{lit, ◌⊖◌, ◌⊗◌, ◌≼◌, ◌⊢◌, omegaℤ}
-use Rattle.proof_integer.specs.Sum.{sumTo-mono, sumTo-scale}
+use Rattle.proof_integer.specs.Sum.{sum_to-mono, sum_to-scale}
 use Rattle.rules.specs.Notation.{sum_to}
 use Rattle.rules.specs.Problem.{Problem, Feasible}
 
@@ -61,7 +61,7 @@ feasible-within f = record { above = f.above; below = f.below }
 pub sum-least : (P : Problem) (w x : ℕ → ℤ) → AllMinimal P w x → (d : ℤ) (y : ℕ → ℤ) → WithinBounds P d y
     → (d *ℤ sum_to P.materials (λ j. w j *ℤ x j)) ≤ℤ sum_to P.materials (λ j. w j *ℤ y j)
 sum-least P w x minimal d y within =
-    simp (← sumTo-scale) (sumTo-mono P.materials _ _ (λ j l.
+    simp (← sum_to-scale) (sum_to-mono P.materials _ _ (λ j l.
     term-least (minimal j l) d (y j) (within.above j l) (within.below j l)))
 
 -- and such amounts lie within the bounds themselves

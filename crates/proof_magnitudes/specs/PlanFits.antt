@@ -6,8 +6,8 @@ use Rattle.std.specs.Int.{w32, w64}
 use Rattle.proof_integer.specs.Range.{bnd-sfits}
 use Rattle.rules.specs.Notation.{at}
 use Rattle.rules.specs.Problem.{Problem}
-use Rattle.rules.specs.Run.{Plan, planAfter}
-use Rattle.rules.specs.Answers.{runRefusal}
+use Rattle.rules.specs.Run.{Plan, plan_after}
+use Rattle.rules.specs.Answers.{run_refusal}
 use Rattle.proof_laws.specs.Lengths.{multipliers-length, sums-length, totals-length}
 use Rattle.proof_magnitudes.specs.Accepted.{Accepted}
 use Rattle.proof_magnitudes.specs.RunMagnitudes.{plan-magnitudes}
@@ -21,14 +21,14 @@ pub record PlanFits (p : Plan) : Type 0 where
   pub gap : SFits w64 p.gap
   pub sums-length : length p.sums ≡ p.materials
   pub multipliers-length : length p.multipliers ≡ p.limits
-  pub totals-length : length p.residualTotals ≡ p.limits
+  pub totals-length : length p.residual_totals ≡ p.limits
   pub sum : (j : ℕ) → j < p.materials → SFits w32 (at p.sums j)
   pub multiplier : (i : ℕ) → i < p.limits → SFits w32 (at p.multipliers i)
-  pub total : (i : ℕ) → i < p.limits → SFits w64 (at p.residualTotals i)
+  pub total : (i : ℕ) → i < p.limits → SFits w64 (at p.residual_totals i)
 
 -- the plan of an accepted problem whose run is not refused fits its record
-pub plan-fits : {P : Problem} {k : ℕ} → Accepted P k → runRefusal P k ≡ none → PlanFits (planAfter P k)
-unfolding planAfter
+pub plan-fits : {P : Problem} {k : ℕ} → Accepted P k → run_refusal P k ≡ none → PlanFits (plan_after P k)
+unfolding plan_after
 plan-fits {P} {k} a going =
     let large = plan-magnitudes a k (le_refl k) going in
     record {

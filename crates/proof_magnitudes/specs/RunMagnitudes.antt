@@ -8,16 +8,16 @@ use Rattle.std.proofs.Common.{le_trans, lit≤}
 use Rattle.std.specs.Int.Signed.{lt_z_no, le_z_yes}
 use Rattle.proof_integer.specs.Order.{≤ℤ-trans, max-left, max_least}
 use Rattle.proof_integer.specs.Range.{Bnd, ◌b+◌, ◌b-◌, ◌b*◌, bnd-of, bnd-between, between-bnd}
-use Rattle.proof_integer.specs.Sum.{sumTo-bnd}
+use Rattle.proof_integer.specs.Sum.{sum_to-bnd}
 use Rattle.rules.specs.Notation.{at}
 use Rattle.rules.specs.Problem.{Problem}
-use Rattle.rules.specs.Sheet.{sheetOf, problem}
-use Rattle.rules.specs.Step.{lookAt, greatestCost, cheapestCost, infeasible, diverged}
-use Rattle.rules.specs.Run.{startingState, stateAfter, lookAfter, closingValue, lowAfter, gap_of}
-use Rattle.rules.specs.Refusals.{firstBelow, layoutRefusal}
-use Rattle.rules.specs.Answers.{lookRefusal, refusalAt, stepRefusal, runRefusal}
+use Rattle.rules.specs.Sheet.{sheet_of, problem}
+use Rattle.rules.specs.Step.{look_at, greatest_cost, cheapest_cost, infeasible, diverged}
+use Rattle.rules.specs.Run.{starting_state, state_after, look_after, closing_value, low_after, gap_of}
+use Rattle.rules.specs.Refusals.{first_below, layout_refusal}
+use Rattle.rules.specs.Answers.{look_refusal, refusal_at, step_refusal, run_refusal}
 use Rattle.proof_magnitudes.specs.Minimal.{minimal-within}
-use Rattle.proof_magnitudes.specs.CostRange.{cheapestEnd, greatestEnd, cheapest-minimal, greatest-minimal}
+use Rattle.proof_magnitudes.specs.CostRange.{cheapest_end, greatest_end, cheapest-minimal, greatest-minimal}
 use Rattle.proof_magnitudes.specs.CostRange.{InCostRange, cost-in-range}
 use Rattle.proof_laws.specs.Below.{any_none}
 use Rattle.proof_laws.specs.NotRefused.{otherwise-none, refuse-none}
@@ -30,54 +30,54 @@ use Rattle.proof_magnitudes.specs.Magnitudes.{amounts-bnd, cost-magnitudes, resi
 -- The state after t steps (T4.9), and the cost of its sums.
 pub record StateMagnitudes (P : Problem) (t : ℕ) : Type 0 where
   pub multiplier : (i : ℕ) → i < P.limits → Fits64 (entering P t i) 1073741824
-  pub sum : (j : ℕ) → j < P.materials → Fits64 (at (stateAfter P t).sums j) 4096000
-  pub residual-total : (i : ℕ) → i < P.limits → Fits64 (at (stateAfter P t).residualTotals i) 262144000000
+  pub sum : (j : ℕ) → j < P.materials → Fits64 (at (state_after P t).sums j) 4096000
+  pub residual-total : (i : ℕ) → i < P.limits → Fits64 (at (state_after P t).residual_totals i) 262144000000
   -- where the bound of low so far comes from
-  pub low-range : InCostRange P (stateAfter P t).lowerBound
-  pub low : Fits64 (stateAfter P t).lowerBound 327680000000
-  pub sums-cost : CostMagnitudes P (at (stateAfter P t).sums) 4096000
+  pub low-range : InCostRange P (state_after P t).lower_bound
+  pub low : Fits64 (state_after P t).lower_bound 327680000000
+  pub sums-cost : CostMagnitudes P (at (state_after P t).sums) 4096000
 
 -- After t steps: the state, the look and the step that it enters, and what that step adds to the totals. Of the state
 -- after the last step the look is the closing look.
 pub record RunMagnitudes (P : Problem) (t : ℕ) : Type 0 where
   pub state : StateMagnitudes P t
   pub step : StepMagnitudes P (entering P t) (amounts P t)
-  pub new-sum : (j : ℕ) → j < P.materials → Fits64 (at (stateAfter P t).sums j +ℤ amounts P t j) 4097000
+  pub new-sum : (j : ℕ) → j < P.materials → Fits64 (at (state_after P t).sums j +ℤ amounts P t j) 4097000
   pub new-total : (i : ℕ) → i < P.limits
-      → Fits64 (at (stateAfter P t).residualTotals i +ℤ residuals P t i) 262208000000
+      → Fits64 (at (state_after P t).residual_totals i +ℤ residuals P t i) 262208000000
 
 -- The plan after t steps: low with the closing value, and the gap, D·Σ_j c_j·S_j − t·low.
 pub record PlanMagnitudes (P : Problem) (t : ℕ) : Type 0 where
   pub state : StateMagnitudes P t
   -- T5.8
-  pub closing-value : Fits64 (closingValue P t) 1099511955456000000
+  pub closing-value : Fits64 (closing_value P t) 1099511955456000000
   -- T5.3, and where its bound comes from
-  pub low-range : InCostRange P (lowAfter P t)
-  pub low : Fits64 (lowAfter P t) 327680000000
+  pub low-range : InCostRange P (low_after P t)
+  pub low : Fits64 (low_after P t) 327680000000
   -- T5.4
-  pub counted-low : Fits64 (pos t *ℤ lowAfter P t) 1342177280000000
-  pub gap : Fits64 (gap_of P t (lowAfter P t) (at (stateAfter P t).sums)) 2684354560000000
+  pub counted-low : Fits64 (pos t *ℤ low_after P t) 1342177280000000
+  pub gap : Fits64 (gap_of P t (low_after P t) (at (state_after P t).sums)) 2684354560000000
 
 -- a look that is not refused does not meet the test of T4.6
-look-feasible : (P : Problem) (t : ℕ) → lookRefusal P t ≡ none → T (not (infeasible P (lookAfter P t)))
-unfolding lookRefusal
+look-feasible : (P : Problem) (t : ℕ) → look_refusal P t ≡ none → T (not (infeasible P (look_after P t)))
+unfolding look_refusal
 look-feasible P t h = refuse-none _ _ _ h
 
 -- where steps 0 to t are not refused, neither are steps 0 to t−1, and step t meets neither the test of T4.6 nor that of
 -- T4.8
-not-refused : (P : Problem) (t : ℕ) → stepRefusal P (suc t) ≡ none
-    → (stepRefusal P t ≡ none) × T (not (infeasible P (lookAfter P t)))
-    × T (not (diverged P (stateAfter P (suc t)).multipliers))
-unfolding stepRefusal refusalAt firstBelow
+not-refused : (P : Problem) (t : ℕ) → step_refusal P (suc t) ≡ none
+    → (step_refusal P t ≡ none) × T (not (infeasible P (look_after P t)))
+    × T (not (diverged P (state_after P (suc t)).multipliers))
+unfolding step_refusal refusal_at first_below
 not-refused P t h =
     let (before, here) = otherwise-none _ _ h in
     let (nine, ten) = otherwise-none _ _ here in
     (before, look-feasible P t nine, refuse-none _ _ _ ten)
 
 -- a look that does not meet the test of T4.6 keeps low in the range of the costs
-low-next : (P : Problem) (t : ℕ) → InCostRange P (stateAfter P t).lowerBound → T (not (infeasible P (lookAfter P t)))
-    → InCostRange P (lowAfter P t)
-unfolding lowAfter closingValue infeasible
+low-next : (P : Problem) (t : ℕ) → InCostRange P (state_after P t).lower_bound → T (not (infeasible P (look_after P t)))
+    → InCostRange P (low_after P t)
+unfolding low_after closing_value infeasible
 low-next P t r feasible = record {
   above = ≤ℤ-trans r.above (max-left _ _);
   below = max_least r.below (lt_z_no feasible);
@@ -85,49 +85,49 @@ low-next P t r feasible = record {
 
 module _ {P : Problem} {k : ℕ} (a : Accepted P k) where
   -- ---- T4.8 keeps the multipliers at most 2³⁰
-  multiplier-top : (t : ℕ) → stepRefusal P t ≡ none → (i : ℕ) → i < P.limits → entering P t i ≤ℤ pos 1073741824
+  multiplier-top : (t : ℕ) → step_refusal P t ≡ none → (i : ℕ) → i < P.limits → entering P t i ≤ℤ pos 1073741824
   unfolding diverged
   multiplier-top zero h i l = rw (entering-first P i l) (a.start-top i l)
   multiplier-top (suc t) h i l = lt_z_no (any_none P.limits _ (not-refused P t h).2 i l)
 
-  multiplier-bnd : (t : ℕ) → stepRefusal P t ≡ none → (i : ℕ) → i < P.limits → Bnd (entering P t i) 1073741824
+  multiplier-bnd : (t : ℕ) → step_refusal P t ≡ none → (i : ℕ) → i < P.limits → Bnd (entering P t i) 1073741824
   multiplier-bnd t h i l =
       bnd-between (≤ℤ-trans (le_z_yes tt) (entering-sign P a.start-sign t i l)) (multiplier-top t h i l)
 
   -- ---- low is D times the cheapest cost before any step, and T4.6 keeps it in the range of the costs
-  low-range : (t : ℕ) → stepRefusal P t ≡ none → InCostRange P (stateAfter P t).lowerBound
-  unfolding stateAfter startingState cheapestCost
-  low-range zero h = cost-in-range P (cheapestEnd P) (minimal-within a.ordered (cheapest-minimal P))
+  low-range : (t : ℕ) → step_refusal P t ≡ none → InCostRange P (state_after P t).lower_bound
+  unfolding state_after starting_state cheapest_cost
+  low-range zero h = cost-in-range P (cheapest_end P) (minimal-within a.ordered (cheapest-minimal P))
   low-range (suc t) h =
       let (before, feasible, _) = not-refused P t h in
       rw (low-handed-on P t) at (low-next P t (low-range t before) feasible)
 
   range-bnd : {z : ℤ} → InCostRange P z → Bnd z 327680000000
-  unfolding cheapestCost greatestCost
+  unfolding cheapest_cost greatest_cost
   range-bnd r =
-      let cheapest = cost-magnitudes a (cheapestEnd P) (lit≤ tt) (amounts-bnd a (cheapest-minimal P)) in
-      let greatest = cost-magnitudes a (greatestEnd P) (lit≤ tt) (amounts-bnd a (greatest-minimal P)) in
+      let cheapest = cost-magnitudes a (cheapest_end P) (lit≤ tt) (amounts-bnd a (cheapest-minimal P)) in
+      let greatest = cost-magnitudes a (greatest_end P) (lit≤ tt) (amounts-bnd a (greatest-minimal P)) in
       bnd-between
       (≤ℤ-trans (between-bnd cheapest.scaled.magnitude).0 r.above)
       (≤ℤ-trans r.below (between-bnd greatest.scaled.magnitude).1)
 
   -- ---- the totals of at most k steps
   module _ (t : ℕ) (few : t ≤ k) where
-    sums-bnd : (j : ℕ) → j < P.materials → Bnd (at (stateAfter P t).sums j) 4096000
+    sums-bnd : (j : ℕ) → j < P.materials → Bnd (at (state_after P t).sums j) 4096000
     sums-bnd j l =
         rw (sums-are P t j l)
-        (sumTo-bnd {N = 4096} t _ (le_trans few a.steps-few) (λ s _. amounts-bnd a (amounts-minimal P s) j l))
+        (sum_to-bnd {N = 4096} t _ (le_trans few a.steps-few) (λ s _. amounts-bnd a (amounts-minimal P s) j l))
 
-    totals-bnd : (i : ℕ) → i < P.limits → Bnd (at (stateAfter P t).residualTotals i) 262144000000
+    totals-bnd : (i : ℕ) → i < P.limits → Bnd (at (state_after P t).residual_totals i) 262144000000
     totals-bnd i l =
         rw (totals-are P t i l)
-        (sumTo-bnd {N = 4096} t _ (le_trans few a.steps-few) (λ s _.
+        (sum_to-bnd {N = 4096} t _ (le_trans few a.steps-few) (λ s _.
         residual-bnd a (amounts P s) (amounts-bnd a (amounts-minimal P s)) i l))
 
-    sums-cost-magnitudes : CostMagnitudes P (at (stateAfter P t).sums) 4096000
-    sums-cost-magnitudes = cost-magnitudes a (at (stateAfter P t).sums) (lit≤ tt) sums-bnd
+    sums-cost-magnitudes : CostMagnitudes P (at (state_after P t).sums) 4096000
+    sums-cost-magnitudes = cost-magnitudes a (at (state_after P t).sums) (lit≤ tt) sums-bnd
 
-    state-magnitudes : stepRefusal P t ≡ none → StateMagnitudes P t
+    state-magnitudes : step_refusal P t ≡ none → StateMagnitudes P t
     state-magnitudes h = record {
       multiplier = λ i l. fit tt (multiplier-bnd t h i l);
       sum = λ j l. fit tt (sums-bnd j l);
@@ -138,12 +138,12 @@ module _ {P : Problem} {k : ℕ} (a : Accepted P k) where
     }
 
     -- the step that the state enters, and the closing look of its run
-    steps-magnitudes : stepRefusal P t ≡ none → StepMagnitudes P (entering P t) (amounts P t)
+    steps-magnitudes : step_refusal P t ≡ none → StepMagnitudes P (entering P t) (amounts P t)
     steps-magnitudes h =
         step-magnitudes a (entering P t) (amounts P t) (multiplier-bnd t h) (amounts-bnd a (amounts-minimal P t))
 
-    closed-magnitudes : stepRefusal P t ≡ none → lookRefusal P t ≡ none → PlanMagnitudes P t
-    unfolding gap_of closingValue lookAfter lookAt
+    closed-magnitudes : step_refusal P t ≡ none → look_refusal P t ≡ none → PlanMagnitudes P t
+    unfolding gap_of closing_value look_after look_at
     closed-magnitudes h closing =
         let range = low-next P t (low-range t h) (look-feasible P t closing) in
         let counted = bnd-of (pos t) (le_trans few a.steps-few) b* range-bnd range in
@@ -157,7 +157,7 @@ module _ {P : Problem} {k : ℕ} (a : Accepted P k) where
         }
 
 -- So it is after every number t of steps of an accepted problem, none of them refused ..
-pub run-magnitudes : {P : Problem} {k : ℕ} → Accepted P k → (t : ℕ) → t ≤ k → stepRefusal P t ≡ none → RunMagnitudes P t
+pub run-magnitudes : {P : Problem} {k : ℕ} → Accepted P k → (t : ℕ) → t ≤ k → step_refusal P t ≡ none → RunMagnitudes P t
 run-magnitudes {P} a t few h = record {
   state = state;
   step = step;
@@ -173,20 +173,20 @@ run-magnitudes {P} a t few h = record {
     step = steps-magnitudes a t few h
 
 -- .. and of its plan, where the closing look is not refused either ..
-pub plan-magnitudes : {P : Problem} {k : ℕ} → Accepted P k → (t : ℕ) → t ≤ k → runRefusal P t ≡ none
+pub plan-magnitudes : {P : Problem} {k : ℕ} → Accepted P k → (t : ℕ) → t ≤ k → run_refusal P t ≡ none
     → PlanMagnitudes P t
-unfolding runRefusal
+unfolding run_refusal
 plan-magnitudes a t few h =
     let (steps, closing) = otherwise-none _ _ h in
     closed-magnitudes a t few steps closing
 
 -- .. and so with the run and the plan of every sheet that is read.
-pub magnitudes : (sheet : List ℕ) → layoutRefusal sheet ≡ none
-    → (t : ℕ) → t ≤ (sheetOf sheet).sizes.steps → stepRefusal (problem (sheetOf sheet)) t ≡ none
-    → RunMagnitudes (problem (sheetOf sheet)) t
+pub magnitudes : (sheet : List ℕ) → layout_refusal sheet ≡ none
+    → (t : ℕ) → t ≤ (sheet_of sheet).sizes.steps → step_refusal (problem (sheet_of sheet)) t ≡ none
+    → RunMagnitudes (problem (sheet_of sheet)) t
 magnitudes sheet read = run-magnitudes (accepted sheet read)
 
-pub magnitudes-of-plan : (sheet : List ℕ) → layoutRefusal sheet ≡ none
-    → (t : ℕ) → t ≤ (sheetOf sheet).sizes.steps → runRefusal (problem (sheetOf sheet)) t ≡ none
-    → PlanMagnitudes (problem (sheetOf sheet)) t
+pub magnitudes-of-plan : (sheet : List ℕ) → layout_refusal sheet ≡ none
+    → (t : ℕ) → t ≤ (sheet_of sheet).sizes.steps → run_refusal (problem (sheet_of sheet)) t ≡ none
+    → PlanMagnitudes (problem (sheet_of sheet)) t
 magnitudes-of-plan sheet read = plan-magnitudes (accepted sheet read)

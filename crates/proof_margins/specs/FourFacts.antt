@@ -7,14 +7,14 @@ use Rattle.std.specs.Int.Signed.{≤ℤ_refl}
 use Rattle.proof_integer.specs.Order.{max_cases, max-right, square-nonneg}
 use Rattle.rules.specs.Notation.{maxℤ}
 use Rattle.rules.specs.Problem.{Problem}
-use Rattle.rules.specs.Step.{reducedCost, residual, dualValue, moved}
+use Rattle.rules.specs.Step.{reduced_cost, residual, dual_value, moved}
 use Rattle.rules.specs.Margins.{square}
 use Rattle.proof_magnitudes.specs.Minimal.{AllMinimal, WithinBounds}
 use Rattle.proof_margins.specs.Lagrangian.{lagrangian, minimum}
 
 pub record FourFacts (P : Problem) (M x M' : ℕ → ℤ) : Type 0 where
   -- F1, the minimum: d·V ≤ the Lagrangian at M and at every point y/d within the bounds
-  pub minimum : (d : ℤ) (y : ℕ → ℤ) → WithinBounds P d y → (d *ℤ dualValue P M x) ≤ℤ lagrangian P M d y
+  pub minimum : (d : ℤ) (y : ℕ → ℤ) → WithinBounds P d y → (d *ℤ dual_value P M x) ≤ℤ lagrangian P M d y
   -- F2, the move up: M + p·residual ≤ M'
   pub up : (i : ℕ) → i < P.limits → (M i +ℤ pos P.numerator *ℤ residual P x i) ≤ℤ M' i
   -- F3, the size of the move: M'² ≤ (M + p·residual)²
@@ -31,7 +31,7 @@ cut-size : (z : ℤ) → square (maxℤ (pos 0) z) ≤ℤ square z
 cut-size z = max_cases _ z (λ m. square m ≤ℤ square z) (λ _. ≤ℤ_refl (square z)) (λ _. square-nonneg z)
 
 pub four-facts : (P : Problem) (M x M' : ℕ → ℤ)
-    → AllMinimal P (reducedCost P M) x
+    → AllMinimal P (reduced_cost P M) x
     → ((i : ℕ) → i < P.limits → pos 0 ≤ℤ M i)
     → ((i : ℕ) → i < P.limits → M' i ≡ moved P M (residual P x) i)
     → FourFacts P M x M'

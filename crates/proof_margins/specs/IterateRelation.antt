@@ -7,10 +7,10 @@ use Rattle.std.specs.Int.Signed.{≤ℤ_refl}
 use Rattle.proof_integer.specs.Order.{≤ℤ-trans, +ℤ-mono, -ℤ-mono, *ℤ-mono-l, gap-mul, pos-nonneg}
 use Rattle.proof_integer.specs.Ring.{one-*ℤ}
 use Rattle.proof_integer.specs.Solve.{lit, ◌⊕◌, ◌⊖◌, ◌⊗◌, ◌≋◌, ◌≼◌, ◌⊢◌, ringℤ, omegaℤ}
-use Rattle.proof_integer.specs.Sum.{sumTo-mono, sumTo-add, sumTo-neg, sumTo-scale}
+use Rattle.proof_integer.specs.Sum.{sum_to-mono, sum_to-add, sum_to-neg, sum_to-scale}
 use Rattle.rules.specs.Notation.{sum_to}
-use Rattle.rules.specs.Problem.{Problem, costOf}
-use Rattle.rules.specs.Step.{residual, dualValue}
+use Rattle.rules.specs.Problem.{Problem, cost_of}
+use Rattle.rules.specs.Step.{residual, dual_value}
 use Rattle.rules.specs.Margins.{square}
 use Rattle.proof_magnitudes.specs.Minimal.{WithinBounds}
 use Rattle.proof_magnitudes.specs.Opening.{value-at-zero}
@@ -43,17 +43,17 @@ module _ {P : Problem} {M x M' : ℕ → ℤ} (facts : FourFacts P M x M') where
   -- Lemma 2(a), where for q(ν) stands L, the Lagrangian at ν and the step's own amounts, which is at least q(ν):
   -- ‖M' − ν‖² − ‖M − ν‖² ≤ 2·p·(V − L) + p²·‖residuals‖²
   pub iterate-relation : (ν : ℕ → ℤ) → ((i : ℕ) → i < P.limits → pos 0 ≤ℤ ν i)
-      → (norm² P (λ i. M' i -ℤ ν i) -ℤ norm² P (λ i. M i -ℤ ν i)) ≤ℤ growth P x (dualValue P M x) (dualValue P ν x)
-  unfolding dualValue
+      → (norm² P (λ i. M' i -ℤ ν i) -ℤ norm² P (λ i. M i -ℤ ν i)) ≤ℤ growth P x (dual_value P M x) (dual_value P ν x)
+  unfolding dual_value
   iterate-relation ν sign =
-      rw cancel (simp (sumTo-add, sumTo-neg, sumTo-scale) at (sumTo-mono P.limits _ _ (λ i l.
+      rw cancel (simp (sum_to-add, sum_to-neg, sum_to-scale) at (sum_to-mono P.limits _ _ (λ i l.
       one-limit (pos P.numerator) (M i) (residual P x i) (M' i) (ν i) (facts.up i l) (facts.size i l) (sign i l))))
     where
       cancel : (C A B : ℤ) → (C +ℤ A) -ℤ (C +ℤ B) ≡ A -ℤ B
       cancel = ringℤ 3 (λ C A B. (C ⊕ A) ⊖ (C ⊕ B) ≋ A ⊖ B) tt
 
   -- from ν = 0, where the Lagrangian is D·c·x: ‖M'‖² − ‖M‖² ≤ 2·p·(V − D·c·x) + p²·‖residuals‖²
-  pub from_zero : (norm² P M' -ℤ norm² P M) ≤ℤ growth P x (dualValue P M x) (pos P.scale *ℤ costOf P x)
+  pub from_zero : (norm² P M' -ℤ norm² P M) ≤ℤ growth P x (dual_value P M x) (pos P.scale *ℤ cost_of P x)
   from_zero =
       simp (value-at-zero P (λ _. pos 0) (λ _ _. refl), +ℤ_idr) at
       (iterate-relation (λ _. pos 0) (λ _ _. ≤ℤ_refl (pos 0)))
@@ -62,9 +62,9 @@ module _ {P : Problem} {M x M' : ℕ → ℤ} (facts : FourFacts P M x M') where
   -- with ν, for amounts within the bounds. The theorem goes by `from_zero`, and not by this.
   -- ‖M' − ν‖² − ‖M − ν‖² ≤ 2·p·(q(M) − q(ν)) + p²·‖residuals‖²
   pub lemma-2a : {ν xν ν' : ℕ → ℤ} → FourFacts P ν xν ν' → WithinBounds P (pos 1) x
-      → (norm² P (λ i. M' i -ℤ ν i) -ℤ norm² P (λ i. M i -ℤ ν i)) ≤ℤ growth P x (dualValue P M x) (dualValue P ν xν)
+      → (norm² P (λ i. M' i -ℤ ν i) -ℤ norm² P (λ i. M i -ℤ ν i)) ≤ℤ growth P x (dual_value P M x) (dual_value P ν xν)
   lemma-2a {ν} {xν} factsν within =
-      ≤ℤ-trans (iterate-relation ν factsν.sign) (growth-mono P x (≤ℤ_refl (dualValue P M x)) smaller)
+      ≤ℤ-trans (iterate-relation ν factsν.sign) (growth-mono P x (≤ℤ_refl (dual_value P M x)) smaller)
     where
-      smaller : dualValue P ν xν ≤ℤ dualValue P ν x
+      smaller : dual_value P ν xν ≤ℤ dual_value P ν x
       smaller = simp (at-whole, one-*ℤ) at (factsν.minimum (pos 1) x within)

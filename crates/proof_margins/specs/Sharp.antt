@@ -5,14 +5,14 @@ use Rattle.std.proofs.Common.{lit<}
 use Rattle.std.specs.Int.Signed.{le_z_yes}
 use Rattle.rules.specs.Notation.{neg, maxℤ, sum_to, at}
 use Rattle.rules.specs.Problem.{Problem, NoneFeasible}
-use Rattle.rules.specs.Step.{reducedCost, dualValue}
-use Rattle.rules.specs.Run.{lookAfter, planAfter}
+use Rattle.rules.specs.Step.{reduced_cost, dual_value}
+use Rattle.rules.specs.Run.{look_after, plan_after}
 use Rattle.rules.specs.Margins.{square, PlanMargins, Margins}
 use Rattle.rules.specs.Rows.{Holds}
 use Rattle.rules.specs.Marked.{C1, C3, C4}
 use Rattle.rules.specs.Started.{S2}
 use Rattle.rules.specs.Closing.{L4, L5, L6}
-use Rattle.rules.specs.Points.{fromSheet, P₁, P₂, P₄, P₆, wholes, wholes-feasible, halves, halves-feasible}
+use Rattle.rules.specs.Points.{from_sheet, P₁, P₂, P₄, P₆, wholes, wholes-feasible, halves, halves-feasible}
 use Rattle.rules.specs.Points.{residual-left, residual-right, squares-left, squares-right}
 use Rattle.proof_magnitudes.specs.Minimal.{most, AllMinimal, WithinBounds}
 use Rattle.proof_magnitudes.specs.Steps.{entering}
@@ -40,32 +40,32 @@ pub claims-L4 : (residual-left P₂ 1 ≤ℤ residual-right P₂ 1) × (squares-
 unfolding Holds Margins
 claims-L4 =
     let plan : PlanMargins P₂ 1 (pos 0) (pos 0) = margins L4.sheet L4.room in
-    (plan.residualTotals 0 (lit< tt), plan.squares)
+    (plan.residual_totals 0 (lit< tt), plan.squares)
 
 -- ---- L5, with p = 4 and gap 36: 0 ≤ 0, and 288 ≤ 288
 pub claims-L5 : (residual-left P₄ 2 ≤ℤ residual-right P₄ 2) × (squares-left P₄ 2 (pos 36) ≤ℤ squares-right P₄ 2)
 unfolding Holds Margins
 claims-L5 =
     let plan : PlanMargins P₄ 2 (pos 0) (pos 36) = margins L5.sheet L5.room in
-    (plan.residualTotals 0 (lit< tt), plan.squares)
+    (plan.residual_totals 0 (lit< tt), plan.squares)
 
 -- ---- L6, with a start and gap 4: −2 ≤ −2, and 20 ≤ 20
 pub claims-L6 : (residual-left P₆ 1 ≤ℤ residual-right P₆ 1) × (squares-left P₆ 1 (pos 4) ≤ℤ squares-right P₆ 1)
 unfolding Holds Margins
 claims-L6 =
     let plan : PlanMargins P₆ 1 (pos 8) (pos 4) = margins L6.sheet L6.room in
-    (plan.residualTotals 0 (lit< tt), plan.squares)
+    (plan.residual_totals 0 (lit< tt), plan.squares)
 
 -- ---- C3, at step 0 S2, and at the closing look C4, refused with 9: they have no feasible point
-pub infeasible-C3 : NoneFeasible (fromSheet C3.sheet)
+pub infeasible-C3 : NoneFeasible (from_sheet C3.sheet)
 unfolding Holds Margins
 infeasible-C3 = margins C3.sheet C3.room refl
 
-pub infeasible-S2 : NoneFeasible (fromSheet S2.sheet)
+pub infeasible-S2 : NoneFeasible (from_sheet S2.sheet)
 unfolding Holds Margins
 infeasible-S2 = margins S2.sheet S2.room refl
 
-pub infeasible-C4 : NoneFeasible (fromSheet C4.sheet)
+pub infeasible-C4 : NoneFeasible (from_sheet C4.sheet)
 unfolding Holds Margins
 infeasible-C4 = margins C4.sheet C4.room refl
 
@@ -83,15 +83,15 @@ one-material = record {
   most = λ _. pos 1;
   coefficient = λ _ _. pos 0;
   rhs = λ _. pos 0;
-  startingMultiplier = λ _. pos 0;
+  starting_multiplier = λ _. pos 0;
 }
 
-pub minimum-other-sign : ((P : Problem) (M x : ℕ → ℤ) → AllMinimal P (λ j. neg_ℤ (reducedCost P M j)) x
-    → (d : ℤ) (y : ℕ → ℤ) → WithinBounds P d y → (d *ℤ dualValue P M x) ≤ℤ lagrangian P M d y) → ⊥
+pub minimum-other-sign : ((P : Problem) (M x : ℕ → ℤ) → AllMinimal P (λ j. neg_ℤ (reduced_cost P M j)) x
+    → (d : ℤ) (y : ℕ → ℤ) → WithinBounds P d y → (d *ℤ dual_value P M x) ≤ℤ lagrangian P M d y) → ⊥
 unfolding Holds lagrangian
 minimum-other-sign claim = (claim one-material (λ _. pos 0) (λ _. pos 1) chosen (pos 1) (λ _. pos 0) within).le
   where
-    chosen : AllMinimal one-material (λ j. neg_ℤ (reducedCost one-material (λ _. pos 0) j)) (λ _. pos 1)
+    chosen : AllMinimal one-material (λ j. neg_ℤ (reduced_cost one-material (λ _. pos 0) j)) (λ _. pos 1)
     chosen j l = most (le_z_yes tt) refl
 
     within : WithinBounds one-material (pos 1) (λ _. pos 0)
@@ -114,19 +114,19 @@ residuals-below-start claim = claim.le
 
 pub squares-of-one-step-less :
     squares-left P₂ 1 (pos 0)
-    ≤ℤ (square (pos P₂.numerator) *ℤ sum_to 0 (λ t. norm² P₂ (at (lookAfter P₂ t).residuals))) → ⊥
+    ≤ℤ (square (pos P₂.numerator) *ℤ sum_to 0 (λ t. norm² P₂ (at (look_after P₂ t).residuals))) → ⊥
 unfolding Holds
 squares-of-one-step-less claim = claim.le
 
 -- at L6, the residual claim for twice the start, −2 ≤ 2 − 8, and the squares claim without the starting squares,
 -- 20 ≤ 4
 pub residuals-with-start-twice :
-    residual-left P₆ 1 ≤ℤ (at (planAfter P₆ 1).multipliers 0 -ℤ pos 2 *ℤ P₆.startingMultiplier 0) → ⊥
+    residual-left P₆ 1 ≤ℤ (at (plan_after P₆ 1).multipliers 0 -ℤ pos 2 *ℤ P₆.starting_multiplier 0) → ⊥
 unfolding Holds
 residuals-with-start-twice claim = claim.le
 
 pub squares-without-start :
     squares-left P₆ 1 (pos 4)
-    ≤ℤ (square (pos P₆.numerator) *ℤ sum_to 1 (λ t. norm² P₆ (at (lookAfter P₆ t).residuals))) → ⊥
+    ≤ℤ (square (pos P₆.numerator) *ℤ sum_to 1 (λ t. norm² P₆ (at (look_after P₆ t).residuals))) → ⊥
 unfolding Holds
 squares-without-start claim = claim.le

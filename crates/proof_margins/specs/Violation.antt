@@ -6,7 +6,7 @@ use Rattle.std.proofs.Common.{arith}
 use Rattle.proof_integer.specs.Order.{gap-mul, pos-nonneg}
 use Rattle.proof_integer.specs.Ring.{one-*ℤ}
 use Rattle.proof_integer.specs.Solve.{lit, ◌⊕◌, ◌⊖◌, ◌⊗◌, ◌≼◌, ◌⊢◌, omegaℤ}
-use Rattle.proof_integer.specs.Sum.{sumTo-mono, sumTo-scale, sumTo-telescope}
+use Rattle.proof_integer.specs.Sum.{sum_to-mono, sum_to-scale, sum_to-telescope}
 use Rattle.rules.specs.Notation.{sum_to}
 use Rattle.rules.specs.Problem.{Problem}
 use Rattle.rules.specs.Step.{residual}
@@ -18,7 +18,7 @@ module _ {P : Problem} {k : ℕ} {M x : ℕ → ℕ → ℤ} (steps : Steps P k 
   pub weighted-residuals : (v : ℕ → ℤ) → ((t : ℕ) → t < k → pos 0 ≤ℤ v t) → (i : ℕ) → i < P.limits
       → (pos P.numerator *ℤ sum_to k (λ t. v t *ℤ residual P (x t) i)) ≤ℤ sum_to k (λ t. v t *ℤ (M (suc t) i -ℤ M t i))
   weighted-residuals v counts i l =
-      simp (← sumTo-scale) (sumTo-mono k _ _ (λ t h.
+      simp (← sum_to-scale) (sum_to-mono k _ _ (λ t h.
       one-step (pos P.numerator) (v t) (residual P (x t) i) (M t i) (M (suc t) i)
       (gap-mul (counts t h) ((steps t h).up i l))))
     where
@@ -32,5 +32,5 @@ module _ {P : Problem} {k : ℕ} {M x : ℕ → ℕ → ℤ} (steps : Steps P k 
   pub proposition-1a : (i : ℕ) → i < P.limits
       → (pos P.numerator *ℤ sum_to k (λ t. residual P (x t) i)) ≤ℤ (M k i -ℤ M 0 i)
   proposition-1a i l =
-      rw (sumTo-telescope k (λ t. M t i)) at
+      rw (sum_to-telescope k (λ t. M t i)) at
       (simp one-*ℤ at (weighted-residuals (λ _. pos 1) (λ _ _. pos-nonneg 1) i l))

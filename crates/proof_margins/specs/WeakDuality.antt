@@ -8,9 +8,9 @@ use Rattle.std.proofs.Math.IntN.{pos}
 use Rattle.proof_integer.specs.Parts.{difs, as-dif}
 use Rattle.proof_integer.specs.Order.{≤ℤ-trans, *ℤ-mono-l, pos-nonneg, gap-mul, <ℤ-suc}
 use Rattle.proof_integer.specs.Solve.{lit, ◌⊕◌, ◌⊖◌, ◌⊗◌, ◌≼◌, ◌≺◌, never, ◌⊢◌, omegaℤ}
-use Rattle.proof_integer.specs.Sum.{sumTo-mono, sumTo-none}
-use Rattle.rules.specs.Problem.{Problem, costOf, load_of, Feasible, NoneFeasible}
-use Rattle.rules.specs.Step.{dualValue, greatestCost}
+use Rattle.proof_integer.specs.Sum.{sum_to-mono, sum_to-none}
+use Rattle.rules.specs.Problem.{Problem, cost_of, load_of, Feasible, NoneFeasible}
+use Rattle.rules.specs.Step.{dual_value, greatest_cost}
 use Rattle.proof_magnitudes.specs.Minimal.{WithinBounds, feasible-within}
 use Rattle.proof_margins.specs.Lagrangian.{lagrangian}
 use Rattle.proof_margins.specs.FourFacts.{FourFacts}
@@ -20,16 +20,16 @@ module _ {P : Problem} {M x M' : ℕ → ℤ} (facts : FourFacts P M x M') where
   -- by F1, d·V ≤ D·c·y where no term M_i·(a_i·y − d·b_i) of the Lagrangian is above 0
   without-terms : (d : ℤ) (y : ℕ → ℤ) → WithinBounds P d y
       → ((i : ℕ) → i < P.limits → (M i *ℤ (load_of P y i -ℤ d *ℤ P.rhs i)) ≤ℤ pos 0)
-      → (d *ℤ dualValue P M x) ≤ℤ (pos P.scale *ℤ costOf P y)
+      → (d *ℤ dual_value P M x) ≤ℤ (pos P.scale *ℤ cost_of P y)
   unfolding lagrangian
   without-terms d y within terms =
-      drop _ _ _ (facts.minimum d y within) (simp sumTo-none at (sumTo-mono P.limits _ (λ _. pos 0) terms))
+      drop _ _ _ (facts.minimum d y within) (simp sum_to-none at (sum_to-mono P.limits _ (λ _. pos 0) terms))
     where
       drop : (v c s : ℤ) → v ≤ℤ (c +ℤ s) → s ≤ℤ pos 0 → v ≤ℤ c
       drop v c s = rw (as-dif v, as-dif c, as-dif s) (simp difs (omega arith))
 
   -- weak duality, d·V ≤ D·c·y: by F4, the term of a limit that is kept is not above 0
-  pub weak-duality : (d : ℤ) (y : ℕ → ℤ) → Feasible P d y → (d *ℤ dualValue P M x) ≤ℤ (pos P.scale *ℤ costOf P y)
+  pub weak-duality : (d : ℤ) (y : ℕ → ℤ) → Feasible P d y → (d *ℤ dual_value P M x) ≤ℤ (pos P.scale *ℤ cost_of P y)
   weak-duality d y f =
       without-terms d y (feasible-within f) (λ i l.
       kept (M i) (load_of P y i) (d *ℤ P.rhs i) (gap-mul (facts.sign i l) (f.within i l)))
@@ -38,12 +38,12 @@ module _ {P : Problem} {M x M' : ℕ → ℤ} (facts : FourFacts P M x M') where
       kept = omegaℤ 3 (λ M r e. (lit 0 ≼ (M ⊖ lit 0) ⊗ (e ⊖ r)) ∷ [] ⊢ M ⊗ (r ⊖ e) ≼ lit 0) (omega arith)
 
   -- a dual value above D times the greatest cost leaves no feasible point
-  pub none-feasible : (pos P.scale *ℤ greatestCost P) <ℤ dualValue P M x → NoneFeasible P
+  pub none-feasible : (pos P.scale *ℤ greatest_cost P) <ℤ dual_value P M x → NoneFeasible P
   none-feasible above d y f =
-      clash (pos P.scale) d (greatestCost P) (dualValue P M x) f.divisor above
+      clash (pos P.scale) d (greatest_cost P) (dual_value P M x) f.divisor above
       (≤ℤ-trans (weak-duality d y f) greatest)
     where
-      greatest : (pos P.scale *ℤ costOf P y) ≤ℤ (pos P.scale *ℤ (d *ℤ greatestCost P))
+      greatest : (pos P.scale *ℤ cost_of P y) ≤ℤ (pos P.scale *ℤ (d *ℤ greatest_cost P))
       greatest = *ℤ-mono-l (pos-nonneg P.scale) (cost-below P d y (feasible-within f))
 
       clash : (D d G v : ℤ) → pos 0 <ℤ d → (D *ℤ G) <ℤ v → (d *ℤ v) ≤ℤ (D *ℤ (d *ℤ G)) → ⊥

@@ -4,8 +4,8 @@ use Rattle.std.specs.Prelude.{ℕ, ◌≡◌, refl, List, [], ◌∷◌, ◌++�
 use Rattle.rules.specs.Notation.{neg}
 use Rattle.rules.specs.declared.Answer.TheVariants.{Plan, Refused}
 use Rattle.rules.specs.declared.Cause.TheVariants.{Infeasible}
-use Rattle.rules.specs.Sheet.{sheetOf, problem}
-use Rattle.rules.specs.Run.{lookAfter, closingValue}
+use Rattle.rules.specs.Sheet.{sheet_of, problem}
+use Rattle.rules.specs.Run.{look_after, closing_value}
 use Rattle.rules.specs.Listing.{text}
 use Rattle.rules.specs.Rows.{Entry, ◌∶◌, encode, hex, Row, Holds, AllHold, ◌and◌}
 use Rattle.rules.specs.Marked.{entries-C1}
@@ -138,7 +138,7 @@ bytes-are = refl
 
 -- ---- the closing values, and those of the steps of L3
 abbrev closing-of : Row → ℕ → ℤ
-closing-of r = closingValue (problem (sheetOf r.sheet))
+closing-of r = closing_value (problem (sheet_of r.sheet))
 
 pub closing-values :
     closing-of L1 3 ∷ closing-of L2 2 ∷ closing-of L3 3 ∷ closing-of L4 1 ∷ closing-of L5 2 ∷ closing-of L6 1 ∷
@@ -148,6 +148,6 @@ unfolding Holds
 closing-values = refl
 
 pub values-L3 :
-    map (λ t. (lookAfter (problem (sheetOf L3.sheet)) t).dualValue) (0 ∷ 1 ∷ 2 ∷ []) ≡ pos 0 ∷ pos 4 ∷ pos 8 ∷ []
+    map (λ t. (look_after (problem (sheet_of L3.sheet)) t).dual_value) (0 ∷ 1 ∷ 2 ∷ []) ≡ pos 0 ∷ pos 4 ∷ pos 8 ∷ []
 unfolding Holds
 values-L3 = refl

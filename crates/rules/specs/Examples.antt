@@ -13,13 +13,13 @@ use Rattle.rules.specs.declared.Sizes.{Sizes}
 use Rattle.rules.specs.declared.Cause.{Cause}
 use Rattle.rules.specs.declared.Cause.TheVariants.{Short, Dimensions, Length, Parameters, Key, Value, Bounds}
 use Rattle.rules.specs.declared.Cause.TheVariants.{Buffer, Infeasible, Diverged}
-use Rattle.rules.specs.Bytes.{signedAt, unsignedBytes, laid}
-use Rattle.rules.specs.Sheet.{headerLength, sheetLength}
-use Rattle.rules.specs.Encoder.{sizesWith}
-use Rattle.rules.specs.Ranges.{ranges, index_of, range_of, mostEntries, largest}
-use Rattle.rules.specs.Record.{recordLength, longestRecord}
-use Rattle.rules.specs.Refusals.{number_of, numbered, refuse, layoutRefusal}
-use Rattle.rules.specs.Output.{wrote, writing, writingOf, lentAfter, shortBuffer}
+use Rattle.rules.specs.Bytes.{signed_at, unsigned_bytes, laid}
+use Rattle.rules.specs.Sheet.{header_length, sheet_length}
+use Rattle.rules.specs.Encoder.{sizes_with}
+use Rattle.rules.specs.Ranges.{ranges, index_of, range_of, most_entries, largest}
+use Rattle.rules.specs.Record.{record_length, longest_record}
+use Rattle.rules.specs.Refusals.{number_of, numbered, refuse, layout_refusal}
+use Rattle.rules.specs.Output.{wrote, writing, writing_of, lent_after, short_buffer}
 use Rattle.rules.specs.Listing.{text}
 use Rattle.rules.specs.Rows.{◌∶◌, header, encode, hex, Row, lent, Holds, AllHold, ◌and◌}
 use Rattle.rules.specs.Marked.{C1, C3, C7}
@@ -192,29 +192,29 @@ ends-hold =
 
 -- signed numbers of four bytes: the bytes of 0, 2^31 − 1, 2^31 and 2^32 − 1
 pub signed-bytes :
-    map (λ v. signedAt 4 (unsignedBytes 4 v) 0) (0 ∷ 2147483647 ∷ 2147483648 ∷ 4294967295 ∷ [])
+    map (λ v. signed_at 4 (unsigned_bytes 4 v) 0) (0 ∷ 2147483647 ∷ 2147483648 ∷ 4294967295 ∷ [])
     ≡ pos 0 ∷ pos 2147483647 ∷ neg 2147483648 ∷ neg 1 ∷ []
 unfolding Holds
 signed-bytes = refl
 
 -- the largest sizes are read
-pub largest-sizes : layoutRefusal (encode 32 16 1024 1024 4096 []) ≡ none
+pub largest-sizes : layout_refusal (encode 32 16 1024 1024 4096 []) ≡ none
 unfolding Holds
 largest-sizes = refl
 
 -- what is written of the sizes is as long as the header
-pub header-length : (z : Sizes) (e : ℕ) → length (laid (unsignedBytes 2) (sizesWith z e)) ≡ headerLength
-unfolding laid unsignedBytes headerLength
+pub header-length : (z : Sizes) (e : ℕ) → length (laid (unsigned_bytes 2) (sizes_with z e)) ≡ header_length
+unfolding laid unsigned_bytes header_length
 header-length z e = refl
 
 -- T2.5, the length of a sheet: 12 bytes, and 6 for each entry
-pub sheet-length : (e : ℕ) → sheetLength e ≡ 12 + 6 * e
-unfolding headerLength
+pub sheet-length : (e : ℕ) → sheet_length e ≡ 12 + 6 * e
+unfolding header_length
 sheet-length e = omega arith
 
 -- T2.6, the length of the longest sheet
-pub longest : sheetLength (mostEntries largest) ≡ 3852
-unfolding headerLength
+pub longest : sheet_length (most_entries largest) ≡ 3852
+unfolding header_length
 longest = refl
 
 -- every kind of figure stands in the table of ranges, so that nothing is read past its end, and the row
@@ -230,13 +230,13 @@ kinds-found Kind.Rhs past = (refl, refl)
 kinds-found Kind.Start past = (refl, refl)
 
 -- T6.2, the length of a record: 22 bytes, 4 for each material, and 12 for each limit
-pub record-length : (n m : ℕ) → recordLength n m ≡ 22 + 4 * n + 12 * m
-unfolding recordLength
+pub record-length : (n m : ℕ) → record_length n m ≡ 22 + 4 * n + 12 * m
+unfolding record_length
 record-length n m = omega arith
 
 -- T6.2, the longest record has 342 bytes
-pub longest-record : longestRecord ≡ 342
-unfolding recordLength
+pub longest-record : longest_record ≡ 342
+unfolding record_length
 longest-record = refl
 
 -- ---- the steps
@@ -322,15 +322,15 @@ steps-hold =
 
 -- ---- what writing three bytes to a lent buffer gives: an answer, and the buffer afterwards
 pub written-3 :
-    (writingOf (1 ∷ 2 ∷ 3 ∷ []) (shortBuffer 8 (1 ∷ 2 ∷ 3 ∷ []) 5) ≡ wrote 3) ×
-    (lentAfter (1 ∷ 2 ∷ 3 ∷ []) (lent 5) (wrote 3) ≡ 1 ∷ 2 ∷ 3 ∷ 170 ∷ 170 ∷ [])
-unfolding writingOf shortBuffer refuse lentAfter
+    (writing_of (1 ∷ 2 ∷ 3 ∷ []) (short_buffer 8 (1 ∷ 2 ∷ 3 ∷ []) 5) ≡ wrote 3) ×
+    (lent_after (1 ∷ 2 ∷ 3 ∷ []) (lent 5) (wrote 3) ≡ 1 ∷ 2 ∷ 3 ∷ 170 ∷ 170 ∷ [])
+unfolding writing_of short_buffer refuse lent_after
 written-3 = refl and refl
 
 -- a buffer of two bytes is too short, and is as lent
 pub not-written-3 :
-    (writingOf (1 ∷ 2 ∷ 3 ∷ []) (shortBuffer 8 (1 ∷ 2 ∷ 3 ∷ []) 2)
+    (writing_of (1 ∷ 2 ∷ 3 ∷ []) (short_buffer 8 (1 ∷ 2 ∷ 3 ∷ []) 2)
     ≡ writing (Output.Refused (record { place = 3; cause = Buffer }))) ×
-    (lentAfter (1 ∷ 2 ∷ 3 ∷ []) (lent 2) (writing (Output.Refused (record { place = 3; cause = Buffer }))) ≡ lent 2)
-unfolding writing numbered number_of writingOf shortBuffer refuse lentAfter
+    (lent_after (1 ∷ 2 ∷ 3 ∷ []) (lent 2) (writing (Output.Refused (record { place = 3; cause = Buffer }))) ≡ lent 2)
+unfolding writing numbered number_of writing_of short_buffer refuse lent_after
 not-written-3 = refl and refl

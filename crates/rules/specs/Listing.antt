@@ -3,9 +3,9 @@ use Rattle.std.specs.Prelude.{ℕ, zero, suc, ◌+◌, ◌/◌, ◌%◌, ◌≡�
 use Prim.Native.Char.{code}
 use Prim.Native.String as String
 use Rattle.rules.specs.Notation.{at}
-use Rattle.rules.specs.Sheet.{sheetOf}
+use Rattle.rules.specs.Sheet.{sheet_of}
 use Rattle.rules.specs.Run.{Plan}
-use Rattle.rules.specs.Record.{recorded, holdsRecord}
+use Rattle.rules.specs.Record.{recorded, holds_record}
 use Rattle.rules.specs.Refusals.{Numbered}
 use Rattle.rules.specs.Answers.{Outcome, plan, refused, plan_of, answer}
 
@@ -41,31 +41,31 @@ lines zero f = []
 lines (suc n) f = lines n f ++ f n
 
 -- T8.1, the lines of a plan
-unfoldable pub planText : Plan → List ℕ
-planText p =
+unfoldable pub plan_text : Plan → List ℕ
+plan_text p =
     line "steps" (pos p.steps ∷ [])
     ++ lines p.materials (λ j. line "mat" (pos j ∷ at p.sums j ∷ []))
-    ++ lines p.limits (λ i. line "lim" (pos i ∷ at p.multipliers i ∷ at p.residualTotals i ∷ []))
+    ++ lines p.limits (λ i. line "lim" (pos i ∷ at p.multipliers i ∷ at p.residual_totals i ∷ []))
     ++ line "low" (p.low ∷ [])
     ++ line "gap" (p.gap ∷ [])
 
 -- T8.2, the line of a refusal
-unfoldable pub refusalText : Numbered → List ℕ
-refusalText r = line "refused" (pos r.number ∷ pos r.place ∷ [])
+unfoldable pub refusal_text : Numbered → List ℕ
+refusal_text r = line "refused" (pos r.number ∷ pos r.place ∷ [])
 
 -- the text of an answer, and of the figures of its plan
 unfoldable pub text_of : Plan → Outcome → List ℕ
-text_of p (plan low gap) = planText p
-text_of p (refused r) = refusalText r
+text_of p (plan low gap) = plan_text p
+text_of p (refused r) = refusal_text r
 
 -- The listing of the answer to a sheet's bytes and a record buffer of `room` bytes.
 unfoldable pub listing : List ℕ → ℕ → List ℕ
-listing s room = text_of (plan_of (sheetOf s)) (answer s room)
+listing s room = text_of (plan_of (sheet_of s)) (answer s room)
 
 -- The text of an answer and its record: of a plan what the record holds, and no text where its bytes hold no record.
-unfoldable pub textFrom : Outcome → List ℕ → List ℕ
-textFrom (plan low gap) r = cond (holdsRecord r) (planText (recorded r)) []
-textFrom (refused r) _ = refusalText r
+unfoldable pub text_from : Outcome → List ℕ → List ℕ
+text_from (plan low gap) r = cond (holds_record r) (plan_text (recorded r)) []
+text_from (refused r) _ = refusal_text r
 
 -- can lent bytes take a text?
 unfoldable pub fits : List ℕ → List ℕ → Bool

@@ -4,10 +4,10 @@ use Rattle.rules.specs.Notation.{neg, at}
 use Rattle.rules.specs.declared.Answer.TheVariants.{Plan, Refused}
 use Rattle.rules.specs.declared.Cause.TheVariants.{Bounds, Infeasible, Diverged}
 use Rattle.rules.specs.Problem.{Problem}
-use Rattle.rules.specs.Sheet.{sized, sheetOf, problem}
+use Rattle.rules.specs.Sheet.{sized, sheet_of, problem}
 use Rattle.rules.specs.Encoder.{written}
-use Rattle.rules.specs.Step.{reducedCost, greatestCost, cheapestCost}
-use Rattle.rules.specs.Run.{stateAfter, lookAfter, closingValue}
+use Rattle.rules.specs.Step.{reduced_cost, greatest_cost, cheapest_cost}
+use Rattle.rules.specs.Run.{state_after, look_after, closing_value}
 use Rattle.rules.specs.Listing.{text}
 use Rattle.rules.specs.Rows.{Entry, ◌∶◌, entered, encode, hex, Row, Holds, AllHold, ◌and◌}
 
@@ -178,41 +178,41 @@ encoded = refl
 -- ---- what T11 says of the steps of C1 and C3
 
 abbrev problem-C1 : Problem
-problem-C1 = problem (sheetOf C1.sheet)
+problem-C1 = problem (sheet_of C1.sheet)
 
 pub multipliers-C1 :
-    map (λ t. at (stateAfter problem-C1 t).multipliers 0) (0 ∷ 1 ∷ 2 ∷ 3 ∷ 4 ∷ [])
+    map (λ t. at (state_after problem-C1 t).multipliers 0) (0 ∷ 1 ∷ 2 ∷ 3 ∷ 4 ∷ [])
     ≡ pos 0 ∷ pos 12 ∷ pos 14 ∷ pos 0 ∷ pos 12 ∷ []
 unfolding Holds
 multipliers-C1 = refl
 
 pub values-C1 :
-    map (λ t. (lookAfter problem-C1 t).dualValue) (0 ∷ 1 ∷ 2 ∷ 3 ∷ []) ≡ pos 0 ∷ pos 104 ∷ pos 68 ∷ pos 0 ∷ []
+    map (λ t. (look_after problem-C1 t).dual_value) (0 ∷ 1 ∷ 2 ∷ 3 ∷ []) ≡ pos 0 ∷ pos 104 ∷ pos 68 ∷ pos 0 ∷ []
 unfolding Holds
 values-C1 = refl
 
 -- the closing value, which is as large as low
-pub closing-C1 : closingValue problem-C1 4 ≡ pos 104
+pub closing-C1 : closing_value problem-C1 4 ≡ pos 104
 unfolding Holds
 closing-C1 = refl
 
 -- the tie: at step 1 the reduced cost of material 0 is 0
-pub tie-C1 : reducedCost problem-C1 (at (stateAfter problem-C1 1).multipliers) 0 ≡ pos 0
+pub tie-C1 : reduced_cost problem-C1 (at (state_after problem-C1 1).multipliers) 0 ≡ pos 0
 unfolding Holds
 tie-C1 = refl
 
 abbrev problem-C3 : Problem
-problem-C3 = problem (sheetOf C3.sheet)
+problem-C3 = problem (sheet_of C3.sheet)
 
-pub value-C3 : (lookAfter problem-C3 1).dualValue ≡ pos 21
+pub value-C3 : (look_after problem-C3 1).dual_value ≡ pos 21
 unfolding Holds
 value-C3 = refl
 
-pub greatest-C3 : greatestCost problem-C3 ≡ pos 1
+pub greatest-C3 : greatest_cost problem-C3 ≡ pos 1
 unfolding Holds
 greatest-C3 = refl
 
 -- the cheapest cost that the bounds of C8 allow, which is its low
-pub cheapest-C8 : cheapestCost (problem (sheetOf C8.sheet)) ≡ neg 6
+pub cheapest-C8 : cheapest_cost (problem (sheet_of C8.sheet)) ≡ neg 6
 unfolding Holds
 cheapest-C8 = refl

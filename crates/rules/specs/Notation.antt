@@ -21,9 +21,9 @@ sum_to zero f = pos 0
 sum_to (suc n) f = sum_to n f +ℤ f n
 
 -- does a test hold at some place below n?
-unfoldable pub anyBelow : ℕ → (ℕ → Bool) → Bool
-anyBelow zero test = false
-anyBelow (suc n) test = anyBelow n test || test n
+unfoldable pub any_below : ℕ → (ℕ → Bool) → Bool
+any_below zero test = false
+any_below (suc n) test = any_below n test || test n
 
 -- the list of f 0 to f (n − 1)
 unfoldable pub tabulate {ℓ} : {A : Type ℓ} → ℕ → (ℕ → A) → List A

@@ -16,20 +16,20 @@ writing (Output.Wrote length) = wrote length
 writing (Output.Refused r) = refused (numbered r)
 
 -- a refusal where there is one, else the length of the bytes
-unfoldable pub writingOf : List ℕ → Option Numbered → Writing
-writingOf bytes none = wrote (length bytes)
-writingOf bytes (some r) = refused r
+unfoldable pub writing_of : List ℕ → Option Numbered → Writing
+writing_of bytes none = wrote (length bytes)
+writing_of bytes (some r) = refused r
 
 -- T13.6, T14.6, the lent buffer afterwards: where bytes were written, they and then the rest as lent; else as lent
-unfoldable pub lentAfter : List ℕ → List ℕ → Writing → List ℕ
-lentAfter bytes lent (wrote n) = bytes ++ drop n lent
-lentAfter bytes lent (refused r) = lent
+unfoldable pub lent_after : List ℕ → List ℕ → Writing → List ℕ
+lent_after bytes lent (wrote n) = bytes ++ drop n lent
+lent_after bytes lent (refused r) = lent
 
 -- the refusal of a buffer of `room` bytes that is shorter than the bytes; the place is their length
-unfoldable pub shortBuffer : ℕ → List ℕ → ℕ → Option Numbered
-shortBuffer number bytes room = refuse number (length bytes) (ltb room (length bytes))
+unfoldable pub short_buffer : ℕ → List ℕ → ℕ → Option Numbered
+short_buffer number bytes room = refuse number (length bytes) (ltb room (length bytes))
 
 -- T13.5, T13.6, T14.6: writing bytes, unless a refusal is given, to a buffer that is `lent` before, `after` afterwards.
 pub record Writes (bytes : List ℕ) (refusal : Option Numbered) (lent after : List ℕ) (result : Output) : Type 0 where
-  pub answered : writing result ≡ writingOf bytes refusal
-  pub buffer : after ≡ lentAfter bytes lent (writing result)
+  pub answered : writing result ≡ writing_of bytes refusal
+  pub buffer : after ≡ lent_after bytes lent (writing result)

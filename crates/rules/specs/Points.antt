@@ -7,8 +7,8 @@ use Rattle.std.proofs.Common.{le_of_suc-le-suc, not-suc-le-zero, lit<}
 use Rattle.std.specs.Int.Signed.{le_z_yes, lt_z_yes}
 use Rattle.rules.specs.Notation.{neg, sum_to, at}
 use Rattle.rules.specs.Problem.{Problem, Feasible, NoneFeasible}
-use Rattle.rules.specs.Sheet.{sheetOf, problem}
-use Rattle.rules.specs.Run.{lookAfter, planAfter}
+use Rattle.rules.specs.Sheet.{sheet_of, problem}
+use Rattle.rules.specs.Run.{look_after, plan_after}
 use Rattle.rules.specs.Refusals.{Numbered}
 use Rattle.rules.specs.Answers.{plan, refused, answer}
 use Rattle.rules.specs.Margins.{square, PlanMargins, Margins}
@@ -17,8 +17,8 @@ use Rattle.rules.specs.Marked.{C1, C3, C7, C9}
 use Rattle.rules.specs.Closing.{L2, L4, L5, L6}
 
 -- the problem of a sheet's bytes
-abbrev pub fromSheet : List ℕ → Problem
-fromSheet sheet = problem (sheetOf sheet)
+abbrev pub from_sheet : List ℕ → Problem
+from_sheet sheet = problem (sheet_of sheet)
 
 -- amounts of one material, and of two
 abbrev one : ℤ → ℕ → ℤ
@@ -40,7 +40,7 @@ below_two Q at-0 at_1 (suc j) l = below_one (λ i. Q (suc i)) at_1 j (le_of_suc-
 
 -- ---- feasible points: C1 has from 0 to 10 of each of two materials, and −2·x₀ − x₁ ≤ −12
 abbrev pub P₁ : Problem
-P₁ = fromSheet C1.sheet
+P₁ = from_sheet C1.sheet
 
 -- the recipe (1, 10): −2 − 10 = −12
 abbrev pub wholes : ℕ → ℤ
@@ -69,7 +69,7 @@ halves-feasible = record {
 }
 
 -- C9 has exactly 4 of its material: 8/2
-pub least-feasible : Feasible (fromSheet C9.sheet) (pos 2) (one (pos 8))
+pub least-feasible : Feasible (from_sheet C9.sheet) (pos 2) (one (pos 8))
 unfolding Holds
 least-feasible = record {
   divisor = lt_z_yes tt;
@@ -85,7 +85,7 @@ unfolding Holds
 divisor-zero f = f.divisor.lt
 
 -- C7, from 0 to 0: a divisor below 0
-pub divisor-negative : Feasible (fromSheet C7.sheet) (neg 1) (one (pos 0)) → ⊥
+pub divisor-negative : Feasible (from_sheet C7.sheet) (neg 1) (one (pos 0)) → ⊥
 unfolding Holds
 divisor-negative f = f.divisor.lt
 
@@ -95,7 +95,7 @@ unfolding Holds
 amount-negative f = (f.above 1 (lit< tt)).le
 
 -- C9: 7/2, below 4
-pub amount-below-least : Feasible (fromSheet C9.sheet) (pos 2) (one (pos 7)) → ⊥
+pub amount-below-least : Feasible (from_sheet C9.sheet) (pos 2) (one (pos 7)) → ⊥
 unfolding Holds
 amount-below-least f = (f.above 0 (lit< tt)).le
 
@@ -138,7 +138,7 @@ gap-17 low claim = (claim.excess (pos 1) wholes wholes-feasible).le
 
 -- ---- C8 with D = 3. Its cost is negative, so that here a claim without D, or with one step for all, would say less
 abbrev pub P₃ : Problem
-P₃ = fromSheet (encode 1 0 1 3 2 (0 ∶ neg 2 ∷ 128 ∶ pos 3 ∷ []))
+P₃ = from_sheet (encode 1 0 1 3 2 (0 ∶ neg 2 ∷ 128 ∶ pos 3 ∷ []))
 
 -- 6/2 of the material
 pub negative-feasible : Feasible P₃ (pos 2) (one (pos 6))
@@ -159,7 +159,7 @@ negative-says low gap claim =
 
 -- ---- of every sheet: after refusal 9, at any place, the margins say that there is no feasible point ..
 pub margins-of-infeasible : (s : List ℕ) (place : ℕ) → Margins s (refused (record { number = 9; place = place }))
-    → NoneFeasible (fromSheet s)
+    → NoneFeasible (from_sheet s)
 unfolding Margins
 margins-of-infeasible s place claim = claim refl
 
@@ -176,7 +176,7 @@ pub answered-with-5 : answer C3-with-5 C3.room ≡ plan (pos 5) (neg 5)
 unfolding Holds
 answered-with-5 = refl
 
-pub feasible-with-5 : Feasible (fromSheet C3-with-5) (pos 1) (one (pos 5))
+pub feasible-with-5 : Feasible (from_sheet C3-with-5) (pos 1) (one (pos 5))
 unfolding Holds
 feasible-with-5 = record {
   divisor = lt_z_yes tt;
@@ -188,28 +188,28 @@ feasible-with-5 = record {
 -- ---- the two sides of the residual claim at limit 0, and of the squares claim
 module _ (P : Problem) (k : ℕ) where
   abbrev pub residual-left : ℤ
-  residual-left = pos P.numerator *ℤ at (planAfter P k).residualTotals 0
+  residual-left = pos P.numerator *ℤ at (plan_after P k).residual_totals 0
 
   abbrev pub residual-right : ℤ
-  residual-right = at (planAfter P k).multipliers 0 -ℤ P.startingMultiplier 0
+  residual-right = at (plan_after P k).multipliers 0 -ℤ P.starting_multiplier 0
 
   abbrev pub squares-left : ℤ → ℤ
   squares-left gap =
-      pos 2 *ℤ pos P.numerator *ℤ gap +ℤ sum_to P.limits (λ i. square (at (planAfter P k).multipliers i))
+      pos 2 *ℤ pos P.numerator *ℤ gap +ℤ sum_to P.limits (λ i. square (at (plan_after P k).multipliers i))
 
   abbrev pub squares-right : ℤ
   squares-right =
-      sum_to P.limits (λ i. square (P.startingMultiplier i))
-      +ℤ square (pos P.numerator) *ℤ sum_to k (λ t. sum_to P.limits (λ i. square (at (lookAfter P t).residuals i)))
+      sum_to P.limits (λ i. square (P.starting_multiplier i))
+      +ℤ square (pos P.numerator) *ℤ sum_to k (λ t. sum_to P.limits (λ i. square (at (look_after P t).residuals i)))
 
 -- of every problem with a limit, the residual claim says this of its two sides
 pub residual-says : (P : Problem) (k : ℕ) (low gap : ℤ) → 0 < P.limits → PlanMargins P k low gap
     → residual-left P k ≤ℤ residual-right P k
-residual-says P k low gap some claim = claim.residualTotals 0 some
+residual-says P k low gap some claim = claim.residual_totals 0 some
 
 -- ---- L4, with p = 2 and gap 0: 2·12 ≤ 24, and 0 + 24² ≤ 2²·12²
 abbrev pub P₂ : Problem
-P₂ = fromSheet L4.sheet
+P₂ = from_sheet L4.sheet
 
 pub residual-sides-P₂ : (residual-left P₂ 1 ≡ pos 24) × (residual-right P₂ 1 ≡ pos 24)
 unfolding Holds
@@ -231,14 +231,14 @@ squares-P₂ claim = claim.le
 
 -- ---- L2, of two steps: the residual claim is 1·4 ≤ 4
 pub residual-sides-L2 :
-    (residual-left (fromSheet L2.sheet) 2 ≡ pos 4) × (residual-right (fromSheet L2.sheet) 2 ≡ pos 4)
+    (residual-left (from_sheet L2.sheet) 2 ≡ pos 4) × (residual-right (from_sheet L2.sheet) 2 ≡ pos 4)
 unfolding Holds
 residual-sides-L2 = (refl, refl)
 
 -- ---- L5, with a gap that is not 0: p = 4 and gap 36. The residual claim is 4·0 ≤ 0, and the squares claim
 -- 2·4·36 + 0² ≤ 4²·(3² + 3²): 288 on both sides
 abbrev pub P₄ : Problem
-P₄ = fromSheet L5.sheet
+P₄ = from_sheet L5.sheet
 
 pub residual-sides-P₄ : (residual-left P₄ 2 ≡ pos 0) × (residual-right P₄ 2 ≡ pos 0)
 unfolding Holds
@@ -266,21 +266,21 @@ gap-37 low claim = claim.squares.le
 -- over points ask nothing, and the other two hold by computing, with gap 0: 4·5 ≤ 20, and 2·4·0 + 20² ≤ 4²·5². A claim
 -- that asks for more fails here
 abbrev pub P₅ : Problem
-P₅ = fromSheet (encode 1 1 4 1 1 (0 ∶ pos 1 ∷ 128 ∶ pos 1 ∷ 192 ∶ neg 1 ∷ 193 ∶ neg 5 ∷ []))
+P₅ = from_sheet (encode 1 1 4 1 1 (0 ∶ pos 1 ∷ 128 ∶ pos 1 ∷ 192 ∶ neg 1 ∷ 193 ∶ neg 5 ∷ []))
 
 pub margins-hold-P₅ : NoneFeasible P₅ → (low : ℤ) → PlanMargins P₅ 1 low (pos 0)
 unfolding Holds
 margins-hold-P₅ none low = record {
   lower = λ d y f. absurd (none d y f);
   excess = λ d y f. absurd (none d y f);
-  residualTotals = below_one _ (le_z_yes tt);
+  residual_totals = below_one _ (le_z_yes tt);
   squares = le_z_yes tt;
 }
 
 -- ---- With starts: L6, with gap 4. The residual claim is 2·(−1) ≤ 2 − 4, and the squares claim
 -- 2·2·4 + 2² ≤ 4² + 2²·(−1)²: 20 on both sides
 abbrev pub P₆ : Problem
-P₆ = fromSheet L6.sheet
+P₆ = from_sheet L6.sheet
 
 pub residual-sides-P₆ : (residual-left P₆ 1 ≡ neg 2) × (residual-right P₆ 1 ≡ neg 2)
 unfolding Holds
@@ -307,13 +307,13 @@ gap-5 low claim = claim.squares.le
 -- P₅ with the start 3: r = 1 − 3; x = 1; g = 5 − 1 = 4; closing M = 3 + 4·4 = 19. There is no feasible point, and with
 -- the gap −12 the other two claims hold by computing: 4·4 ≤ 19 − 3, and 2·4·(−12) + 19² ≤ 3² + 4²·4², 265 on both sides
 abbrev pub P₇ : Problem
-P₇ = fromSheet (encode 1 1 4 1 1 (0 ∶ pos 1 ∷ 128 ∶ pos 1 ∷ 192 ∶ neg 1 ∷ 193 ∶ neg 5 ∷ 194 ∶ pos 3 ∷ []))
+P₇ = from_sheet (encode 1 1 4 1 1 (0 ∶ pos 1 ∷ 128 ∶ pos 1 ∷ 192 ∶ neg 1 ∷ 193 ∶ neg 5 ∷ 194 ∶ pos 3 ∷ []))
 
 pub margins-hold-P₇ : NoneFeasible P₇ → (low : ℤ) → PlanMargins P₇ 1 low (neg 12)
 unfolding Holds
 margins-hold-P₇ none low = record {
   lower = λ d y f. absurd (none d y f);
   excess = λ d y f. absurd (none d y f);
-  residualTotals = below_one _ (le_z_yes tt);
+  residual_totals = below_one _ (le_z_yes tt);
   squares = le_z_yes tt;
 }

@@ -25,12 +25,12 @@ pub record Problem : Type 0 where
   -- b_i
   pub rhs : ℕ → ℤ
   -- s_i ("start"), the multiplier of limit i before any step
-  pub startingMultiplier : ℕ → ℤ
+  pub starting_multiplier : ℕ → ℤ
 
 module _ (P : Problem) where
   -- T1.4, the cost of amounts x: Σ_j c_j·x_j
-  unfoldable pub costOf : (ℕ → ℤ) → ℤ
-  costOf x = sum_to P.materials (λ j. P.cost j *ℤ x j)
+  unfoldable pub cost_of : (ℕ → ℤ) → ℤ
+  cost_of x = sum_to P.materials (λ j. P.cost j *ℤ x j)
 
   -- T1.3, what limit i keeps at b_i or below: Σ_j a_ij·x_j
   unfoldable pub load_of : (ℕ → ℤ) → ℕ → ℤ

@@ -61,20 +61,20 @@ unfoldable pub between : ℕ → ℕ → ℕ → Bool
 between least greatest x = leb least x && leb x greatest
 
 -- T2.6, the most entries that n and m allow: n(m+3)+2m
-abbrev pub mostEntries : Shape → ℕ
-mostEntries shape = shape.materials * (shape.limits + 3) + 2 * shape.limits
+abbrev pub most_entries : Shape → ℕ
+most_entries shape = shape.materials * (shape.limits + 3) + 2 * shape.limits
 
 -- T2.6, the largest shape
 abbrev pub largest : Shape
 largest = record { materials = 32; limits = 16 }
 
 -- T2.6, are n, m and e in their ranges?
-unfoldable pub dimensionsInRange : Shape → ℕ → Bool
-dimensionsInRange shape e =
+unfoldable pub dimensions_in_range : Shape → ℕ → Bool
+dimensions_in_range shape e =
     between 1 largest.materials shape.materials
     && between 0 largest.limits shape.limits
-    && between 0 (mostEntries shape) e
+    && between 0 (most_entries shape) e
 
 -- T2.6, are p, D and k in their ranges?
-unfoldable pub parametersInRange : Sizes → Bool
-parametersInRange z = between 1 1024 z.numerator && between 1 1024 z.scale && between 1 4096 z.steps
+unfoldable pub parameters_in_range : Sizes → Bool
+parameters_in_range z = between 1 1024 z.numerator && between 1 1024 z.scale && between 1 4096 z.steps

@@ -1,25 +1,25 @@
 -- How a table of sheets is written down and held against the definitions. Only worked sheets and points use it.
 use Rattle.std.specs.Prelude.{ℕ, ◌+◌, ◌-◌, ◌*◌, ◌≡◌, cond, List, [], ◌∷◌, ◌++◌, map, length, replicate, drop, ℤ, pos, ltb, eqb}
 use Prim.Native.String.{String}
-use Rattle.rules.specs.Notation.{is_zero, maxℤ, sum_to, anyBelow, tabulate}
+use Rattle.rules.specs.Notation.{is_zero, maxℤ, sum_to, any_below, tabulate}
 use Rattle.rules.specs.declared.Answer.{Answer}
-use Rattle.rules.specs.Problem.{costOf, load_of}
-use Rattle.rules.specs.Bytes.{unsignedAt, signed_of, signedAt, unsignedBytes, signedBytes, laid}
-use Rattle.rules.specs.Sheet.{headerLength, sized, Table, valueUnder, problemFrom}
-use Rattle.rules.specs.Encoder.{laidOut, sizesWith, picked, keys_of, written}
-use Rattle.rules.specs.Ranges.{ranges, index_of, range_of, kind_at, in_range, between, dimensionsInRange}
-use Rattle.rules.specs.Ranges.{parametersInRange}
-use Rattle.rules.specs.Step.{reducedCost, amount, residual, dualValue, lookAt, greatestCost}
-use Rattle.rules.specs.Step.{cheapestCost, infeasible, moved, next, diverged}
-use Rattle.rules.specs.Run.{startingState, stateAfter, lookAfter, closingValue, lowAfter, gap_of, planAfter}
-use Rattle.rules.specs.Record.{recordOf, recordLength, recorded, holdsRecord}
-use Rattle.rules.specs.Refusals.{number_of, numbered, refuse, ◌otherwise◌, firstBelow, noFigureAt, notAbove}
-use Rattle.rules.specs.Refusals.{badKey, valueBad, badValue, crossed, sizesRefusal, keyRefusal, valueRefusal}
-use Rattle.rules.specs.Refusals.{boundRefusal, layoutRefusal}
-use Rattle.rules.specs.Answers.{outcome, lookRefusal, refusalAt, stepRefusal, runRefusal, planRefusal}
-use Rattle.rules.specs.Answers.{outcomeOf, plan_of, refusal, answerTo, answer, bufferOf, bufferAfter}
-use Rattle.rules.specs.Listing.{text, digits, decimal, spaced, line, lines, planText, refusalText, text_of}
-use Rattle.rules.specs.Listing.{listing, textFrom}
+use Rattle.rules.specs.Problem.{cost_of, load_of}
+use Rattle.rules.specs.Bytes.{unsigned_at, signed_of, signed_at, unsigned_bytes, signed_bytes, laid}
+use Rattle.rules.specs.Sheet.{header_length, sized, Table, value_under, problem_from}
+use Rattle.rules.specs.Encoder.{laid_out, sizes_with, picked, keys_of, written}
+use Rattle.rules.specs.Ranges.{ranges, index_of, range_of, kind_at, in_range, between, dimensions_in_range}
+use Rattle.rules.specs.Ranges.{parameters_in_range}
+use Rattle.rules.specs.Step.{reduced_cost, amount, residual, dual_value, look_at, greatest_cost}
+use Rattle.rules.specs.Step.{cheapest_cost, infeasible, moved, next, diverged}
+use Rattle.rules.specs.Run.{starting_state, state_after, look_after, closing_value, low_after, gap_of, plan_after}
+use Rattle.rules.specs.Record.{record_of, record_length, recorded, holds_record}
+use Rattle.rules.specs.Refusals.{number_of, numbered, refuse, ◌otherwise◌, first_below, no_figure_at, not_above}
+use Rattle.rules.specs.Refusals.{bad_key, value_bad, bad_value, crossed, sizes_refusal, key_refusal, value_refusal}
+use Rattle.rules.specs.Refusals.{bound_refusal, layout_refusal}
+use Rattle.rules.specs.Answers.{outcome, look_refusal, refusal_at, step_refusal, run_refusal, plan_refusal}
+use Rattle.rules.specs.Answers.{outcome_of, plan_of, refusal, answer_to, answer, buffer_of, buffer_after}
+use Rattle.rules.specs.Listing.{text, digits, decimal, spaced, line, lines, plan_text, refusal_text, text_of}
+use Rattle.rules.specs.Listing.{listing, text_from}
 
 -- ---- how a row is written
 
@@ -39,12 +39,12 @@ entered (x ∷ xs) key = cond (eqb x.key key) x.value (entered xs key)
 
 -- sizes and no entry, with any e
 abbrev pub header : List ℕ → List ℕ
-header sizes = laidOut sizes [] []
+header sizes = laid_out sizes [] []
 
 -- sizes and entries as they are given, in any order, with any keys and values
 abbrev pub encode : (n m p D k : ℕ) → List Entry → List ℕ
 encode n m p D k entries =
-    laidOut (sizesWith (sized n m p D k) (length entries)) (map (λ x. x.key) entries) (map (λ x. x.value) entries)
+    laid_out (sizes_with (sized n m p D k) (length entries)) (map (λ x. x.key) entries) (map (λ x. x.value) entries)
 
 -- bytes in hexadecimal, with spaces between the fields
 unfoldable pub nibble : ℕ → ℕ
@@ -85,19 +85,19 @@ after r = r.bytes ++ drop (length r.bytes) (lent r.room)
 -- of that answer and that buffer. Whoever unfolds it computes with them all.
 unfoldable pub Holds : Row → Type 0
 unfolding
-    headerLength is_zero laid laidOut picked keys_of written entered nibble unspaced pairs outcome numbered number_of maxℤ
-    sum_to tabulate costOf load_of unsignedAt signed_of signedAt unsignedBytes signedBytes valueUnder problemFrom ranges
-    index_of range_of kind_at in_range between dimensionsInRange parametersInRange anyBelow reducedCost amount residual
-    dualValue lookAt greatestCost cheapestCost infeasible moved next diverged startingState stateAfter
-    lookAfter closingValue lowAfter gap_of planAfter recordOf recordLength recorded holdsRecord refuse ◌otherwise◌
-    firstBelow noFigureAt notAbove badKey valueBad badValue crossed sizesRefusal keyRefusal valueRefusal boundRefusal
-    layoutRefusal lookRefusal refusalAt stepRefusal runRefusal planRefusal outcomeOf plan_of refusal answerTo answer
-    bufferOf bufferAfter text digits decimal spaced line lines planText refusalText text_of listing textFrom
+    header_length is_zero laid laid_out picked keys_of written entered nibble unspaced pairs outcome numbered number_of maxℤ
+    sum_to tabulate cost_of load_of unsigned_at signed_of signed_at unsigned_bytes signed_bytes value_under problem_from ranges
+    index_of range_of kind_at in_range between dimensions_in_range parameters_in_range any_below reduced_cost amount residual
+    dual_value look_at greatest_cost cheapest_cost infeasible moved next diverged starting_state state_after
+    look_after closing_value low_after gap_of plan_after record_of record_length recorded holds_record refuse ◌otherwise◌
+    first_below no_figure_at not_above bad_key value_bad bad_value crossed sizes_refusal key_refusal value_refusal bound_refusal
+    layout_refusal look_refusal refusal_at step_refusal run_refusal plan_refusal outcome_of plan_of refusal answer_to answer
+    buffer_of buffer_after text digits decimal spaced line lines plan_text refusal_text text_of listing text_from
 Holds r =
     (answer r.sheet r.room ≡ outcome r.answer) ×
-    (bufferAfter r.sheet (lent r.room) ≡ after r) ×
+    (buffer_after r.sheet (lent r.room) ≡ after r) ×
     (listing r.sheet r.room ≡ r.listing) ×
-    (textFrom (outcome r.answer) (after r) ≡ r.listing)
+    (text_from (outcome r.answer) (after r) ≡ r.listing)
 
 -- every row of a table holds
 unfoldable pub AllHold : List Row → Type 0

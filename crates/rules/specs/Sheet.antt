@@ -2,30 +2,30 @@
 -- way back.
 use Rattle.std.specs.Prelude.{ℕ, zero, suc, ◌+◌, ◌*◌, ◌/◌, ◌%◌, cond, List, ℤ, pos, eqb}
 use Rattle.rules.specs.declared.Sizes.{Sizes}
-use Rattle.rules.specs.Bytes.{unsignedAt, signedAt}
+use Rattle.rules.specs.Bytes.{unsigned_at, signed_at}
 use Rattle.rules.specs.Problem.{Problem}
 
 -- ---- the layout of the bytes
 
 -- T2.2, how long the header is: six sizes of 2 bytes
-unfoldable pub headerLength : ℕ
-headerLength = 2 * 6
+unfoldable pub header_length : ℕ
+header_length = 2 * 6
 
 -- T2.2, size i of a sheet's bytes
 abbrev pub size_at : List ℕ → ℕ → ℕ
-size_at s i = unsignedAt 2 s (2 * i)
+size_at s i = unsigned_at 2 s (2 * i)
 
 -- T2.4, where key i stands: keys of 2 bytes follow the header
 abbrev pub key_at : ℕ → ℕ
-key_at i = headerLength + 2 * i
+key_at i = header_length + 2 * i
 
 -- T2.4, where value i of e stands: values of 4 bytes follow the keys
 abbrev pub value_at : ℕ → ℕ → ℕ
 value_at e i = key_at e + 4 * i
 
 -- T2.5, the length of a sheet of e entries: it ends after its values
-abbrev pub sheetLength : ℕ → ℕ
-sheetLength e = value_at e e
+abbrev pub sheet_length : ℕ → ℕ
+sheet_length e = value_at e e
 
 -- ---- a sheet that has been read
 
@@ -42,8 +42,8 @@ pub record Sheet : Type 0 where
   pub value : ℕ → ℤ
 
 -- T2.2: the sizes are n, m, e, p, D and k, in this order.
-abbrev pub sheetOf : List ℕ → Sheet
-sheetOf s =
+abbrev pub sheet_of : List ℕ → Sheet
+sheet_of s =
     record {
       sizes = record {
         shape = record { materials = size_at s 0; limits = size_at s 1 };
@@ -52,8 +52,8 @@ sheetOf s =
         steps = size_at s 5;
       };
       entries = size_at s 2;
-      key = λ i. unsignedAt 2 s (key_at i);
-      value = λ i. signedAt 4 s (value_at (size_at s 2) i);
+      key = λ i. unsigned_at 2 s (key_at i);
+      value = λ i. signed_at 4 s (value_at (size_at s 2) i);
     }
 
 -- ---- figures by key
@@ -66,8 +66,8 @@ key_of row column = row * 64 + column
 abbrev pub row_of : ℕ → ℕ
 row_of key = key / 64
 
-abbrev pub columnOf : ℕ → ℕ
-columnOf key = key % 64
+abbrev pub column_of : ℕ → ℕ
+column_of key = key % 64
 
 -- a table: the figure under each key, 0 where there is none
 abbrev pub Table : Type 0
@@ -75,17 +75,17 @@ Table = ℕ → ℤ
 
 module _ (S : Sheet) where
   -- the value of the entry with this key among the first e; 0 where there is none
-  unfoldable pub valueUnder : ℕ → Table
-  valueUnder zero key = pos 0
-  valueUnder (suc e) key = cond (eqb (S.key e) key) (S.value e) (valueUnder e key)
+  unfoldable pub value_under : ℕ → Table
+  value_under zero key = pos 0
+  value_under (suc e) key = cond (eqb (S.key e) key) (S.value e) (value_under e key)
 
   -- T3.3, the table of a sheet: 0 where a key has no entry
   abbrev pub table_of : Table
-  table_of = valueUnder S.entries
+  table_of = value_under S.entries
 
 -- T3.2, the figures of a table by material and limit
-unfoldable pub problemFrom : Sizes → Table → Problem
-problemFrom z T =
+unfoldable pub problem_from : Sizes → Table → Problem
+problem_from z T =
     let n = z.shape.materials in
     record {
       materials = n;
@@ -97,9 +97,9 @@ problemFrom z T =
       most = λ j. T (key_of 2 j);
       coefficient = λ i j. T (key_of (3 + i) j);
       rhs = λ i. T (key_of (3 + i) n);
-      startingMultiplier = λ i. T (key_of (3 + i) (n + 1));
+      starting_multiplier = λ i. T (key_of (3 + i) (n + 1));
     }
 
 -- the problem of a sheet that has been read
 abbrev pub problem : Sheet → Problem
-problem S = problemFrom S.sizes (table_of S)
+problem S = problem_from S.sizes (table_of S)

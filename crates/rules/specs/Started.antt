@@ -5,9 +5,9 @@ use Rattle.rules.specs.Notation.{neg, at}
 use Rattle.rules.specs.declared.Answer.TheVariants.{Plan, Refused}
 use Rattle.rules.specs.declared.Cause.TheVariants.{Dimensions, Value, Infeasible}
 use Rattle.rules.specs.declared.Kind.TheVariants.{Start}
-use Rattle.rules.specs.Sheet.{sheetOf, problem}
+use Rattle.rules.specs.Sheet.{sheet_of, problem}
 use Rattle.rules.specs.Ranges.{range_of, in_range}
-use Rattle.rules.specs.Run.{stateAfter, lookAfter}
+use Rattle.rules.specs.Run.{state_after, look_after}
 use Rattle.rules.specs.Listing.{text}
 use Rattle.rules.specs.Rows.{◌∶◌, encode, hex, Row, Holds, AllHold, ◌and◌}
 use Rattle.rules.specs.Marked.{entries-C1, entries-C3}
@@ -147,20 +147,20 @@ bytes-are = refl
 
 -- ---- what T11.3 says of the steps of S1
 pub multipliers-S1 :
-    map (λ t. at (stateAfter (problem (sheetOf S1.sheet)) t).multipliers 0) (0 ∷ 1 ∷ 2 ∷ 3 ∷ 4 ∷ [])
+    map (λ t. at (state_after (problem (sheet_of S1.sheet)) t).multipliers 0) (0 ∷ 1 ∷ 2 ∷ 3 ∷ 4 ∷ [])
     ≡ pos 12 ∷ pos 14 ∷ pos 0 ∷ pos 12 ∷ pos 14 ∷ []
 unfolding Holds
 multipliers-S1 = refl
 
 pub values-S1 :
-    map (λ t. (lookAfter (problem (sheetOf S1.sheet)) t).dualValue) (0 ∷ 1 ∷ 2 ∷ 3 ∷ [])
+    map (λ t. (look_after (problem (sheet_of S1.sheet)) t).dual_value) (0 ∷ 1 ∷ 2 ∷ 3 ∷ [])
     ≡ pos 104 ∷ pos 68 ∷ pos 0 ∷ pos 104 ∷ []
 unfolding Holds
 values-S1 = refl
 
 -- the values of S3 are below its low
 pub values-S3 :
-    map (λ t. (lookAfter (problem (sheetOf S3.sheet)) t).dualValue) (0 ∷ 1 ∷ []) ≡ neg 18 ∷ neg 14 ∷ []
+    map (λ t. (look_after (problem (sheet_of S3.sheet)) t).dual_value) (0 ∷ 1 ∷ []) ≡ neg 18 ∷ neg 14 ∷ []
 unfolding Holds
 values-S3 = refl
 

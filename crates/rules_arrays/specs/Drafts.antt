@@ -5,18 +5,18 @@ use Rattle.rules.specs.declared.Cause.{Cause}
 use Rattle.rules.specs.declared.Cause.TheVariants.{Dimensions, Parameters, Value, Bounds, Buffer}
 use Rattle.rules.specs.declared.Output.{Output}
 use Rattle.rules.specs.declared.Sizes.{Sizes}
-use Rattle.rules.specs.Notation.{neg, is_zero, anyBelow}
-use Rattle.rules.specs.Bytes.{unsignedBytes, signedBytes, laid}
-use Rattle.rules.specs.Sheet.{sized, sheetOf, problem}
-use Rattle.rules.specs.Ranges.{ranges, index_of, range_of, kind_at, in_range, between, dimensionsInRange}
-use Rattle.rules.specs.Ranges.{parametersInRange}
-use Rattle.rules.specs.Encoder.{laidOut, picked, keys_of, written}
-use Rattle.rules.specs.Refusals.{number_of, numbered, refuse, ◌otherwise◌, firstBelow, noFigureAt, valueBad}
-use Rattle.rules.specs.Refusals.{crossed, boundRefusal}
-use Rattle.rules.specs.Output.{writing, writingOf, lentAfter, shortBuffer}
-use Rattle.rules_arrays.specs.Arrays.{Arrays, arrays, lengthsMatch, figureOf, gathered, figureBad, tableRefusal}
-use Rattle.rules_arrays.specs.Arrays.{sheetFrom, arraysRefusal, writeRefusal}
-use Rattle.rules_arrays.specs.ReadBack.{arraysOf, unplaced, presentIn, figuresPresent}
+use Rattle.rules.specs.Notation.{neg, is_zero, any_below}
+use Rattle.rules.specs.Bytes.{unsigned_bytes, signed_bytes, laid}
+use Rattle.rules.specs.Sheet.{sized, sheet_of, problem}
+use Rattle.rules.specs.Ranges.{ranges, index_of, range_of, kind_at, in_range, between, dimensions_in_range}
+use Rattle.rules.specs.Ranges.{parameters_in_range}
+use Rattle.rules.specs.Encoder.{laid_out, picked, keys_of, written}
+use Rattle.rules.specs.Refusals.{number_of, numbered, refuse, ◌otherwise◌, first_below, no_figure_at, value_bad}
+use Rattle.rules.specs.Refusals.{crossed, bound_refusal}
+use Rattle.rules.specs.Output.{writing, writing_of, lent_after, short_buffer}
+use Rattle.rules_arrays.specs.Arrays.{Arrays, arrays, lengths_match, figure_of, gathered, figure_bad, table_refusal}
+use Rattle.rules_arrays.specs.Arrays.{sheet_from, arrays_refusal, write_refusal}
+use Rattle.rules_arrays.specs.ReadBack.{arrays_of, unplaced, present_in, figures_present}
 use Rattle.rules.specs.Rows.{hex, nibble, unspaced, pairs, lent, Holds, ◌and◌}
 use Rattle.rules.specs.Marked.{C1}
 use Rattle.rules.specs.Listing.{text}
@@ -48,14 +48,14 @@ refuses z A room cause place = record {
 -- What the definitions give is what the draft says: the answer, and the buffer afterwards.
 unfoldable pub Written : Draft → Type 0
 unfolding
-    is_zero anyBelow unsignedBytes signedBytes laid ranges index_of range_of kind_at in_range between dimensionsInRange
-    parametersInRange laidOut picked keys_of written number_of numbered refuse ◌otherwise◌ firstBelow noFigureAt valueBad
-    crossed boundRefusal writing writingOf lentAfter shortBuffer lengthsMatch figureOf gathered figureBad tableRefusal
-    sheetFrom arraysRefusal writeRefusal nibble unspaced pairs text
+    is_zero any_below unsigned_bytes signed_bytes laid ranges index_of range_of kind_at in_range between dimensions_in_range
+    parameters_in_range laid_out picked keys_of written number_of numbered refuse ◌otherwise◌ first_below no_figure_at value_bad
+    crossed bound_refusal writing writing_of lent_after short_buffer lengths_match figure_of gathered figure_bad table_refusal
+    sheet_from arrays_refusal write_refusal nibble unspaced pairs text
 Written r =
-    let bytes = sheetFrom r.sizes r.arrays in
-    (writingOf bytes (writeRefusal r.sizes r.arrays r.room) ≡ writing r.output) ×
-    (lentAfter bytes (lent r.room) (writing r.output) ≡ r.bytes ++ drop (length r.bytes) (lent r.room))
+    let bytes = sheet_from r.sizes r.arrays in
+    (writing_of bytes (write_refusal r.sizes r.arrays r.room) ≡ writing r.output) ×
+    (lent_after bytes (lent r.room) (writing r.output) ≡ r.bytes ++ drop (length r.bytes) (lent r.room))
 
 -- every draft of a table
 unfoldable pub AllWritten : List Draft → Type 0
@@ -162,8 +162,8 @@ figures-refused =
 -- ---- the terms in which T13.7 to T13.10 are said
 
 -- the figures that C1 is read as, in plain arrays
-pub arrays-C1 : arraysOf (problem (sheetOf C1.sheet)) ≡ figures-C1
-unfolding Holds arraysOf
+pub arrays-C1 : arrays_of (problem (sheet_of C1.sheet)) ≡ figures-C1
+unfolding Holds arrays_of
 arrays-C1 = refl
 
 -- 6 keeps its number alone, 7 its place too
@@ -176,6 +176,6 @@ unfolding unplaced
 unplaced-7 = refl
 
 -- C1 has 7 figures that are not 0
-pub present-C1 : figuresPresent figures-C1 ≡ 7
-unfolding figuresPresent presentIn picked is_zero
+pub present-C1 : figures_present figures-C1 ≡ 7
+unfolding figures_present present_in picked is_zero
 present-C1 = refl

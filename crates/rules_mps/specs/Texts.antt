@@ -5,14 +5,14 @@ use Rattle.rules.specs.declared.Cause.TheVariants.{Key, Bounds, Text}
 use Rattle.rules.specs.declared.Output.{Output}
 use Rattle.rules.specs.Notation.{neg}
 use Rattle.rules.specs.Problem.{Problem}
-use Rattle.rules.specs.Output.{writing, writingOf, lentAfter, shortBuffer}
+use Rattle.rules.specs.Output.{writing, writing_of, lent_after, short_buffer}
 use Rattle.rules.specs.Listing.{text}
 use Rattle.rules.specs.Rows.{◌∶◌, encode, lent, Holds, ◌and◌}
 use Rattle.rules.specs.Marked.{C1, C7, C10}
 use Rattle.rules.specs.Started.{S1}
-use Rattle.rules_mps.specs.Mps.{materialName, limitName, fields, unlessZero, row_line, costLine, coefficientLine}
-use Rattle.rules_mps.specs.Mps.{columnLines, rhsLine, boundLines, mpsText, mpsOf, mpsRefusal, longestMps}
-use Rattle.rules_mps.specs.Mps.{printedOf, mpsPrinted}
+use Rattle.rules_mps.specs.Mps.{material_name, limit_name, fields, unless_zero, row_line, cost_line, coefficient_line}
+use Rattle.rules_mps.specs.Mps.{column_lines, rhs_line, bound_lines, mps_text, mps_of, mps_refusal, longest_mps}
+use Rattle.rules_mps.specs.Mps.{printed_of, mps_printed}
 
 -- A sheet and the length of the lent buffer; and what must come out: the answer, the bytes that are written (none for a
 -- refusal), and what batchmps prints.
@@ -40,13 +40,13 @@ refuses s room cause place t = record {
 -- What the definitions give is what the row says: the answer, the buffer afterwards, and what is printed.
 unfoldable pub Exported : Export → Type 0
 unfolding
-    Holds materialName limitName fields unlessZero row_line costLine coefficientLine columnLines rhsLine boundLines
-    mpsText mpsOf mpsRefusal printedOf mpsPrinted writing writingOf lentAfter shortBuffer
+    Holds material_name limit_name fields unless_zero row_line cost_line coefficient_line column_lines rhs_line bound_lines
+    mps_text mps_of mps_refusal printed_of mps_printed writing writing_of lent_after short_buffer
 Exported r =
-    let t = mpsOf r.sheet in
-    (writingOf t (mpsRefusal r.sheet r.room) ≡ writing r.output) ×
-    (lentAfter t (lent r.room) (writing r.output) ≡ r.bytes ++ drop (length r.bytes) (lent r.room)) ×
-    (mpsPrinted r.sheet ≡ r.printed)
+    let t = mps_of r.sheet in
+    (writing_of t (mps_refusal r.sheet r.room) ≡ writing r.output) ×
+    (lent_after t (lent r.room) (writing r.output) ≡ r.bytes ++ drop (length r.bytes) (lent r.room)) ×
+    (mps_printed r.sheet ≡ r.printed)
 
 -- every row of a table
 unfoldable pub AllExported : List Export → Type 0
@@ -148,9 +148,9 @@ widest = record {
   most = λ _. pos 1000;
   coefficient = λ _ _. neg 1000;
   rhs = λ _. neg 32000000;
-  startingMultiplier = λ _. pos 0;
+  starting_multiplier = λ _. pos 0;
 }
 
-pub longest : length (mpsText widest) ≡ longestMps
-unfolding Exported longestMps
+pub longest : length (mps_text widest) ≡ longest_mps
+unfolding Exported longest_mps
 longest = refl

@@ -3,7 +3,7 @@ ghost use Rattle.std.specs.Prelude.{◌≡◌};
 ghost use Rattle.rules.specs.Notation.{tabulate, at};
 ghost use Rattle.rules.specs.Step.{amount};
 ghost use Rattle.sheet_figures.specs.Padded.{padded};
-ghost use Rattle.run_amounts.specs.Amounts.{withoutRhs, AmountFits, AmountsFit};
+ghost use Rattle.run_amounts.specs.Amounts.{without_rhs, AmountFits, AmountsFit};
 
 use run_ends::end_by;
 use run_sums::dot_column_64;
@@ -19,10 +19,10 @@ fn amount_at<'a>(
     coefficient: &'a [i16; 512],
     multipliers: &'a [i32; 16],
 ) -> i16
-    requires { AmountFits (withoutRhs 0 m scale cost.now least.now most.now coefficient.now)
+    requires { AmountFits (without_rhs 0 m scale cost.now least.now most.now coefficient.now)
         (at multipliers.now) j }
     ensures { result ≡ amount
-        (withoutRhs 0 m scale cost.now least.now most.now coefficient.now)
+        (without_rhs 0 m scale cost.now least.now most.now coefficient.now)
         (at multipliers.now) j }
 {
     let scaled = (scale as i64) * (cost[j] as i64);
@@ -42,10 +42,10 @@ pub fn choose_amounts<'a>(
     multipliers: &'a [i32; 16],
     amounts: &'a mut [i16; 32],
 )
-    requires { AmountsFit (withoutRhs n m scale cost.now least.now most.now coefficient.now)
+    requires { AmountsFit (without_rhs n m scale cost.now least.now most.now coefficient.now)
         (at multipliers.now) amounts.old }
     ensures { amounts.new ≡ padded 32 (tabulate n (amount
-        (withoutRhs n m scale cost.now least.now most.now coefficient.now)
+        (without_rhs n m scale cost.now least.now most.now coefficient.now)
         (at multipliers.now))) }
 {
     let mut j: usize = 0;

@@ -1,6 +1,6 @@
 // The end of a run: the closing look, at the multipliers that the last step leaves, with no step more.
-ghost use Rattle.rules.specs.Answers.{lookRefusal};
-ghost use Rattle.sheet_figures.specs.Figures.{problemOf};
+ghost use Rattle.rules.specs.Answers.{look_refusal};
+ghost use Rattle.sheet_figures.specs.Figures.{problem_of};
 ghost use Rattle.run_step.specs.States.{closed_in, HandedBack};
 ghost use Rattle.run_step.specs.Reached.{LookReady};
 
@@ -14,9 +14,9 @@ use sheet_figures::Figures;
 // low with its dual value (T5.8). Multipliers, sums and totals stay.
 pub fn close(w: State, f: Figures, coefficient: &[i16; 512], greatest: i64, count: usize) -> Stepped
     requires { LookReady f coefficient.now greatest count w }
-    ensures { HandedBack (problemOf f coefficient.now)
-        (closed_in (problemOf f coefficient.now) count)
-        (lookRefusal (problemOf f coefficient.now) count) result }
+    ensures { HandedBack (problem_of f coefficient.now)
+        (closed_in (problem_of f coefficient.now) count)
+        (look_refusal (problem_of f coefficient.now) count) result }
 {
     let multipliers = w.multipliers;
     let mut x: [i16; 32] = [0; 32];

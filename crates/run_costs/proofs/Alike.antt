@@ -5,18 +5,18 @@ use native.Mathlib.Nat.{lt_of_lt_of_le}
 use lib.IntN.{ℤ, pos, ◌+ℤ◌, ◌*ℤ◌}
 use mir.Syntax.{w32, w64}
 use mir.Val.{SFits}
-use Rattle.proof_integer.specs.Sum.{sumTo-cong}
+use Rattle.proof_integer.specs.Sum.{sum_to-cong}
 use Rattle.rules.specs.Notation.{sum_to}
-use Rattle.rules.specs.Problem.{Problem, costOf}
+use Rattle.rules.specs.Problem.{Problem, cost_of}
 use Rattle.run_costs.specs.Costs.{CostFits}
 
 module _ (P : Problem) {x y : ℕ → ℤ} (alike : (j : ℕ) → j < P.materials → x j ≡ y j) where
   parts : (n : ℕ) → n ≤ P.materials → sum_to n (λ j. P.cost j *ℤ x j) ≡ sum_to n (λ j. P.cost j *ℤ y j)
-  parts n l = sumTo-cong n _ _ (λ j h. ap (λ z. P.cost j *ℤ z) (alike j (lt_of_lt_of_le h l)))
+  parts n l = sum_to-cong n _ _ (λ j h. ap (λ z. P.cost j *ℤ z) (alike j (lt_of_lt_of_le h l)))
 
-  pub same-cost : costOf P x ≡ costOf P y
-  unfolding costOf
-  same-cost = sumTo-cong P.materials _ _ (λ j h. ap (λ z. P.cost j *ℤ z) (alike j h))
+  pub same-cost : cost_of P x ≡ cost_of P y
+  unfolding cost_of
+  same-cost = sum_to-cong P.materials _ _ (λ j h. ap (λ z. P.cost j *ℤ z) (alike j h))
 
   pub fits-alike : CostFits P x → CostFits P y
   fits-alike fits = record {

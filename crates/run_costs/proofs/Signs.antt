@@ -5,15 +5,15 @@ use lib.IntN.{pos, negsuc}
 use lib.Signed.{lt_z}
 use Rattle.proof_integer.specs.Ring.{one-*ℤ}
 use Rattle.rules.specs.Problem.{Problem}
-use Rattle.proof_magnitudes.specs.CostRange.{cheapestEnd, greatestEnd}
-use Rattle.run_ends.specs.Ends.{endBy, opposite-sign}
-use Rattle.run_ends.specs.SignedEnds.{signedEnd}
+use Rattle.proof_magnitudes.specs.CostRange.{cheapest_end, greatest_end}
+use Rattle.run_ends.specs.Ends.{end_by, opposite-sign}
+use Rattle.run_ends.specs.SignedEnds.{signed_end}
 
 module _ (P : Problem) where
-  pub cheapest-by-sign : signedEnd (pos 1) P ≡ cheapestEnd P
-  unfolding endBy
+  pub cheapest-by-sign : signed_end (pos 1) P ≡ cheapest_end P
+  unfolding end_by
   cheapest-by-sign = λ k j. cond (lt_z (one-*ℤ (P.cost j) k) (pos 0)) (P.most j) (P.least j)
 
-  pub greatest-by-sign : signedEnd (negsuc 0) P ≡ greatestEnd P
-  unfolding endBy
+  pub greatest-by-sign : signed_end (negsuc 0) P ≡ greatest_end P
+  unfolding end_by
   greatest-by-sign = λ k j. cond (opposite-sign (P.cost j) k) (P.most j) (P.least j)

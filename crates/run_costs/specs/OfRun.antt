@@ -6,17 +6,17 @@ use Rattle.std.proofs.Common.{lit≤}
 use Rattle.std.proofs.Math.IntN.{+ℤ_idl}
 use Rattle.proof_integer.specs.Range.{bnd-sfits}
 use Rattle.rules.specs.Notation.{at}
-use Rattle.rules.specs.Problem.{Problem, costOf}
-use Rattle.rules.specs.Run.{stateAfter, lowAfter, gap_of}
-use Rattle.rules.specs.Answers.{runRefusal}
+use Rattle.rules.specs.Problem.{Problem, cost_of}
+use Rattle.rules.specs.Run.{state_after, low_after, gap_of}
+use Rattle.rules.specs.Answers.{run_refusal}
 use Rattle.proof_magnitudes.specs.Accepted.{Accepted}
-use Rattle.proof_magnitudes.specs.CostRange.{greatestEnd, cheapestEnd, cheapest-minimal, greatest-minimal}
+use Rattle.proof_magnitudes.specs.CostRange.{greatest_end, cheapest_end, cheapest-minimal, greatest-minimal}
 use Rattle.proof_magnitudes.specs.Magnitudes.{CostMagnitudes, amounts-bnd, cost-magnitudes}
 use Rattle.proof_magnitudes.specs.RunMagnitudes.{plan-magnitudes}
 use Rattle.sheet_figures.specs.declared.Figures.{Figures}
-use Rattle.sheet_figures.specs.Figures.{problemOf}
-use Rattle.run_ends.specs.SignedEnds.{materialsOnly}
-use Rattle.run_costs.specs.Costs.{costsOnly, CostFits, GapFits}
+use Rattle.sheet_figures.specs.Figures.{problem_of}
+use Rattle.run_ends.specs.SignedEnds.{materials_only}
+use Rattle.run_costs.specs.Costs.{costs_only, CostFits, GapFits}
 
 -- the cost of amounts of at most 1,000
 pub cost-fits : {P : Problem} {k : ℕ} → Accepted P k → (x : ℕ → ℤ) → CostMagnitudes P x 1000 → CostFits P x
@@ -30,36 +30,36 @@ cost-fits accepted x costs = record {
   scaled = costs.scaled.fits;
 }
 
-module _ (f : Figures) (a : List ℤ) {k : ℕ} (accepted : Accepted (problemOf f a) k) where
+module _ (f : Figures) (a : List ℤ) {k : ℕ} (accepted : Accepted (problem_of f a) k) where
   abbrev P : Problem
-  P = problemOf f a
+  P = problem_of f a
 
   -- the costs, and with the bounds, as the functions are lent them
   abbrev costs : Problem
-  costs = costsOnly f.materials f.scale f.cost
+  costs = costs_only f.materials f.scale f.cost
 
   abbrev bounded : Problem
-  bounded = materialsOnly f.materials f.scale f.cost f.least f.most
+  bounded = materials_only f.materials f.scale f.cost f.least f.most
 
   -- ---- the greatest and the cheapest cost
-  pub greatest-fits : CostFits bounded (greatestEnd P)
-  unfolding costOf
+  pub greatest-fits : CostFits bounded (greatest_end P)
+  unfolding cost_of
   greatest-fits =
       let amounts = amounts-bnd accepted (greatest-minimal P) in
       let fits = cost-fits accepted _ (cost-magnitudes accepted _ (lit≤ tt) amounts) in
       record { narrow = fits.narrow; scale = fits.scale; sum = fits.sum; scaled = fits.scaled }
 
-  pub cheapest-fits : CostFits bounded (cheapestEnd P)
-  unfolding costOf
+  pub cheapest-fits : CostFits bounded (cheapest_end P)
+  unfolding cost_of
   cheapest-fits =
       let amounts = amounts-bnd accepted (cheapest-minimal P) in
       let fits = cost-fits accepted _ (cost-magnitudes accepted _ (lit≤ tt) amounts) in
       record { narrow = fits.narrow; scale = fits.scale; sum = fits.sum; scaled = fits.scaled }
 
   -- ---- the gap after t steps, where the run is not refused
-  pub gap-fits : (t : ℕ) → t ≤ k → runRefusal P t ≡ none
-      → GapFits costs t (lowAfter P t) (at (stateAfter P t).sums)
-  unfolding costOf gap_of
+  pub gap-fits : (t : ℕ) → t ≤ k → run_refusal P t ≡ none
+      → GapFits costs t (low_after P t) (at (state_after P t).sums)
+  unfolding cost_of gap_of
   gap-fits t few going =
       let large = plan-magnitudes accepted t few going in
       record {

@@ -2,12 +2,12 @@
 // and the gap.
 ghost use Rattle.std.specs.Prelude.{◌≡◌, pos, ◌*ℤ◌};
 ghost use Rattle.rules.specs.Notation.{at};
-ghost use Rattle.rules.specs.Problem.{costOf};
-ghost use Rattle.rules.specs.Step.{greatestCost, cheapestCost};
+ghost use Rattle.rules.specs.Problem.{cost_of};
+ghost use Rattle.rules.specs.Step.{greatest_cost, cheapest_cost};
 ghost use Rattle.rules.specs.Run.{gap_of};
-ghost use Rattle.proof_magnitudes.specs.CostRange.{cheapestEnd, greatestEnd};
-ghost use Rattle.run_ends.specs.SignedEnds.{materialsOnly, signedEnd};
-ghost use Rattle.run_costs.specs.Costs.{costsOnly, CostFits, SignedEndsFit, GapFits};
+ghost use Rattle.proof_magnitudes.specs.CostRange.{cheapest_end, greatest_end};
+ghost use Rattle.run_ends.specs.SignedEnds.{materials_only, signed_end};
+ghost use Rattle.run_costs.specs.Costs.{costs_only, CostFits, SignedEndsFit, GapFits};
 
 use run_arithmetic::minus_64;
 use run_ends::choose_ends;
@@ -15,8 +15,8 @@ use run_sums::{dot_32, dot_column_64};
 
 // D times the cost of amounts.
 pub fn scaled_cost<'a>(n: usize, scale: usize, cost: &'a [i16; 32], amounts: &'a [i16; 32]) -> i64
-    requires { CostFits (costsOnly n scale cost.now) (at amounts.now) }
-    ensures { result ≡ pos scale *ℤ costOf (costsOnly n scale cost.now) (at amounts.now) }
+    requires { CostFits (costs_only n scale cost.now) (at amounts.now) }
+    ensures { result ≡ pos scale *ℤ cost_of (costs_only n scale cost.now) (at amounts.now) }
 {
     let sum = dot_32(n, cost, 0, amounts);
     (scale as i64) * (sum as i64)
@@ -31,10 +31,10 @@ fn value_at_ends<'a>(
     least: &'a [i16; 32],
     most: &'a [i16; 32],
 ) -> i64
-    requires { SignedEndsFit sign (materialsOnly n scale cost.now least.now most.now) }
+    requires { SignedEndsFit sign (materials_only n scale cost.now least.now most.now) }
     ensures { result ≡ pos scale *ℤ
-        costOf (materialsOnly n scale cost.now least.now most.now)
-        (signedEnd sign (materialsOnly n scale cost.now least.now most.now)) }
+        cost_of (materials_only n scale cost.now least.now most.now)
+        (signed_end sign (materials_only n scale cost.now least.now most.now)) }
 {
     let mut x: [i16; 32] = [0; 32];
     choose_ends(n, sign, cost, least, most, &mut x);
@@ -49,10 +49,10 @@ pub fn greatest_value<'a>(
     least: &'a [i16; 32],
     most: &'a [i16; 32],
 ) -> i64
-    requires { CostFits (materialsOnly n scale cost.now least.now most.now)
-        (greatestEnd (materialsOnly n scale cost.now least.now most.now)) }
+    requires { CostFits (materials_only n scale cost.now least.now most.now)
+        (greatest_end (materials_only n scale cost.now least.now most.now)) }
     ensures { result ≡ pos scale *ℤ
-        greatestCost (materialsOnly n scale cost.now least.now most.now) }
+        greatest_cost (materials_only n scale cost.now least.now most.now) }
 {
     value_at_ends(n, scale, -1, cost, least, most)
 }
@@ -65,10 +65,10 @@ pub fn cheapest_value<'a>(
     least: &'a [i16; 32],
     most: &'a [i16; 32],
 ) -> i64
-    requires { CostFits (materialsOnly n scale cost.now least.now most.now)
-        (cheapestEnd (materialsOnly n scale cost.now least.now most.now)) }
+    requires { CostFits (materials_only n scale cost.now least.now most.now)
+        (cheapest_end (materials_only n scale cost.now least.now most.now)) }
     ensures { result ≡ pos scale *ℤ
-        cheapestCost (materialsOnly n scale cost.now least.now most.now) }
+        cheapest_cost (materials_only n scale cost.now least.now most.now) }
 {
     value_at_ends(n, scale, 1, cost, least, most)
 }
@@ -82,8 +82,8 @@ pub fn gap<'a>(
     count: usize,
     low: i64,
 ) -> i64
-    requires { GapFits (costsOnly n scale cost.now) count low (at sums.now) }
-    ensures { result ≡ gap_of (costsOnly n scale cost.now) count low (at sums.now) }
+    requires { GapFits (costs_only n scale cost.now) count low (at sums.now) }
+    ensures { result ≡ gap_of (costs_only n scale cost.now) count low (at sums.now) }
 {
     let sum = dot_column_64(n, 0, sums, cost, 0, 1);
     minus_64((scale as i64) * sum, (count as i64) * low)

@@ -4,8 +4,8 @@ use Rattle.std.specs.Prelude.{◌≡◌, refl, cond, zero, suc, ℤ, pos, negsuc
 use Rattle.std.proofs.Common.{sym, zero-le, one-mul, arith, lt-ltb, le-ltb}
 use Rattle.std.specs.Int.Signed.{lt_z}
 
-unfoldable pub endBy : (weight least most : ℤ) → ℤ
-endBy weight least most = cond (lt_z weight (pos 0)) most least
+unfoldable pub end_by : (weight least most : ℤ) → ℤ
+end_by weight least most = cond (lt_z weight (pos 0)) most least
 
 -- −c is below 0 where c is above 0
 pub opposite-sign : (c : ℤ) → lt_z (negsuc 0 *ℤ c) (pos 0) ≡ lt_z (pos 0) c

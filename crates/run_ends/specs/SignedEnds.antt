@@ -4,16 +4,16 @@ use Rattle.std.specs.Prelude.{◌≡◌, ℕ, ◌≤◌, ℤ, pos, ◌*ℤ◌}
 use mathlib.Core.List.{List, [], replicate}
 use Rattle.proof_integer.specs.Range.{Bnd}
 use Rattle.rules.specs.Problem.{Problem}
-use Rattle.sheet_figures.specs.Figures.{problemIn}
-use Rattle.run_ends.specs.Ends.{endBy}
+use Rattle.sheet_figures.specs.Figures.{problem_in}
+use Rattle.run_ends.specs.Ends.{end_by}
 
 -- the materials: costs and bounds
-abbrev pub materialsOnly : (n D : ℕ) → (c l u : List ℤ) → Problem
-materialsOnly n D c l u = problemIn n 0 0 D c l u [] []
+abbrev pub materials_only : (n D : ℕ) → (c l u : List ℤ) → Problem
+materials_only n D c l u = problem_in n 0 0 D c l u [] []
 
 -- the end of the bounds of material j that its cost times a sign chooses: with 1 the cheapest, with −1 the greatest
-abbrev pub signedEnd : ℤ → Problem → ℕ → ℤ
-signedEnd sign P j = endBy (sign *ℤ P.cost j) (P.least j) (P.most j)
+abbrev pub signed_end : ℤ → Problem → ℕ → ℤ
+signed_end sign P j = end_by (sign *ℤ P.cost j) (P.least j) (P.most j)
 
 -- ends by a sign, which is 1 or −1, into an array of zeros
 pub record EndsFit (n : ℕ) (sign : ℤ) (ends : List ℤ) : Type 0 where

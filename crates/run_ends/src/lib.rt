@@ -2,12 +2,12 @@
 ghost use Rattle.std.specs.Prelude.{◌≡◌};
 ghost use Rattle.rules.specs.Notation.{tabulate};
 ghost use Rattle.sheet_figures.specs.Padded.{padded};
-ghost use Rattle.run_ends.specs.Ends.{endBy};
-ghost use Rattle.run_ends.specs.SignedEnds.{materialsOnly, signedEnd, EndsFit};
+ghost use Rattle.run_ends.specs.Ends.{end_by};
+ghost use Rattle.run_ends.specs.SignedEnds.{materials_only, signed_end, EndsFit};
 
 // The end of the bounds that a weight chooses: the most amount where it is below 0, else the least.
 pub fn end_by(weight: i64, least: i16, most: i16) -> i16
-    ensures { result ≡ endBy weight least most }
+    ensures { result ≡ end_by weight least most }
 {
     if weight < 0 { most } else { least }
 }
@@ -24,7 +24,7 @@ pub fn choose_ends<'a>(
 )
     requires { EndsFit n sign ends.old }
     ensures { ends.new ≡ padded 32 (tabulate n
-        (signedEnd sign (materialsOnly n 0 cost.now least.now most.now))) }
+        (signed_end sign (materials_only n 0 cost.now least.now most.now))) }
 {
     let mut j: usize = 0;
     while j < n {

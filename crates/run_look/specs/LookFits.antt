@@ -4,8 +4,8 @@ use Rattle.std.specs.Prelude.{◌≡◌, List, ℕ, ◌≤◌, ◌<◌, ℤ, pos
 use Rattle.std.specs.Int.{w32, w64}
 use Rattle.std.proofs.Common.{SFits}
 use Rattle.rules.specs.Notation.{at}
-use Rattle.rules.specs.Problem.{Problem, costOf}
-use Rattle.rules.specs.Step.{residual, lookAt}
+use Rattle.rules.specs.Problem.{Problem, cost_of}
+use Rattle.rules.specs.Step.{residual, look_at}
 use Rattle.run_sums.specs.SumsFit.{SumFits}
 use Rattle.run_amounts.specs.Amounts.{AmountsFit}
 use Rattle.run_costs.specs.Costs.{CostFits}
@@ -21,7 +21,7 @@ pub record ResidualsFit (P : Problem) (x : ℕ → ℤ) (residuals : List ℤ) :
 -- the whole look: the amounts, their residuals, their cost, and the dual value
 pub record LookFits (P : Problem) (M : ℕ → ℤ) (amounts residuals : List ℤ) : Type 0 where
   pub amounts-fit : AmountsFit P M amounts
-  pub residuals-fit : ResidualsFit P (at (lookAt P M).amounts) residuals
-  pub cost : CostFits P (at (lookAt P M).amounts)
-  pub value : SumFits w64 (pos P.scale *ℤ costOf P (at (lookAt P M).amounts))
-      (λ i. M i *ℤ at (lookAt P M).residuals i) P.limits
+  pub residuals-fit : ResidualsFit P (at (look_at P M).amounts) residuals
+  pub cost : CostFits P (at (look_at P M).amounts)
+  pub value : SumFits w64 (pos P.scale *ℤ cost_of P (at (look_at P M).amounts))
+      (λ i. M i *ℤ at (look_at P M).residuals i) P.limits

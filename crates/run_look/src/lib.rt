@@ -1,10 +1,10 @@
 // A look at given multipliers: the amounts that minimise the Lagrangian, their residuals, and the dual value.
 ghost use Rattle.std.specs.Prelude.{◌≡◌};
 ghost use Rattle.rules.specs.Notation.{tabulate, at};
-ghost use Rattle.rules.specs.Step.{residual, lookAt};
-ghost use Rattle.sheet_figures.specs.Figures.{problemIn};
+ghost use Rattle.rules.specs.Step.{residual, look_at};
+ghost use Rattle.sheet_figures.specs.Figures.{problem_in};
 ghost use Rattle.sheet_figures.specs.Padded.{padded};
-ghost use Rattle.run_look.specs.Given.{limitsOnly, LookIn};
+ghost use Rattle.run_look.specs.Given.{limits_only, LookIn};
 ghost use Rattle.run_look.specs.LookFits.{ResidualsFit, LookFits};
 
 use run_amounts::choose_amounts;
@@ -20,9 +20,9 @@ fn take_residuals<'a>(
     amounts: &'a [i16; 32],
     residuals: &'a mut [i32; 16],
 )
-    requires { ResidualsFit (limitsOnly n m coefficient.now rhs.now) (at amounts.now) residuals.old }
+    requires { ResidualsFit (limits_only n m coefficient.now rhs.now) (at amounts.now) residuals.old }
     ensures { residuals.new ≡ padded 16 (tabulate m (residual
-        (limitsOnly n m coefficient.now rhs.now) (at amounts.now))) }
+        (limits_only n m coefficient.now rhs.now) (at amounts.now))) }
 {
     let mut i: usize = 0;
     while i < m {
@@ -46,10 +46,10 @@ pub fn look_at<'a>(
     amounts: &'a mut [i16; 32],
     residuals: &'a mut [i32; 16],
 ) -> i64
-    requires { LookFits (problemIn n m 0 scale cost.now least.now most.now coefficient.now rhs.now)
+    requires { LookFits (problem_in n m 0 scale cost.now least.now most.now coefficient.now rhs.now)
         (at multipliers.now) amounts.old residuals.old }
-    ensures { LookIn (lookAt
-        (problemIn n m 0 scale cost.now least.now most.now
+    ensures { LookIn (look_at
+        (problem_in n m 0 scale cost.now least.now most.now
         coefficient.now rhs.now)
         (at multipliers.now)) amounts.new residuals.new result }
 {

@@ -7,16 +7,16 @@ use Rattle.std.proofs.Math.Logic.{inl, inr}
 use Prim.Native.Nat.{ℕ, zero, suc, ◌≤◌, ◌<◌}
 use Rattle.std.specs.Int.Signed.{lt_z}
 use Rattle.std.specs.Int.{w64}
-use Rattle.rules.specs.Notation.{anyBelow, tabulate, at}
+use Rattle.rules.specs.Notation.{any_below, tabulate, at}
 use Rattle.rules.specs.Problem.{Problem}
 use Rattle.rules.specs.Step.{moved, diverged}
 use Rattle.proof_laws.specs.Below.{any_found}
-use Rattle.sheet_figures.specs.Figures.{problemIn}
+use Rattle.sheet_figures.specs.Figures.{problem_in}
 use Rattle.run_totals.specs.Changed.{Changed}
 
 -- the limits, of which the move takes only how many they are, and the step numerator
-abbrev pub limitsMoved : (m p : ℕ) → Problem
-limitsMoved m p = problemIn 0 m p 0 [] [] [] [] []
+abbrev pub limits_moved : (m p : ℕ) → Problem
+limits_moved m p = problem_in 0 m p 0 [] [] [] [] []
 
 -- the move asks that p times the residuals g fit, and the multipliers M before they are cut at 0
 pub record MoveFits (P : Problem) (M g : ℕ → ℤ) : Type 0 where
@@ -26,36 +26,36 @@ pub record MoveFits (P : Problem) (M g : ℕ → ℤ) : Type 0 where
   pub uncut : (i : ℕ) → i < P.limits → SFits w64 (M i +ℤ pos P.numerator *ℤ g i)
 
 -- the first place below n that meets a test, or n where none does
-unfoldable pub placesBefore : ℕ → (ℕ → Bool) → ℕ
-placesBefore zero test = 0
-placesBefore (suc n) test = cond (anyBelow n test) (placesBefore n test) (cond (test n) n (suc n))
+unfoldable pub places_before : ℕ → (ℕ → Bool) → ℕ
+places_before zero test = 0
+places_before (suc n) test = cond (any_below n test) (places_before n test) (cond (test n) n (suc n))
 
 -- is the multiplier of limit i after the move too large?
-abbrev pub tooLarge : Problem → (M g : ℕ → ℤ) → ℕ → Bool
-tooLarge P M g i = lt_z (pos 1073741824) (at (tabulate P.limits (moved P M g)) i)
+abbrev pub too_large : Problem → (M g : ℕ → ℤ) → ℕ → Bool
+too_large P M g i = lt_z (pos 1073741824) (at (tabulate P.limits (moved P M g)) i)
 
 -- The multipliers as lent and afterwards, and whether one diverged: those before the first that did are moved, and the
 -- others are as lent.
 pub record Moved (P : Problem) (g : ℕ → ℤ) (old new : List ℤ) (result : Bool) : Type 0 where
   pub test : result ≡ diverged P (tabulate P.limits (moved P (at old) g))
-  pub places : Changed (placesBefore P.limits (tooLarge P (at old) g)) (moved P (at old) g) old new
+  pub places : Changed (places_before P.limits (too_large P (at old) g)) (moved P (at old) g) old new
 
 -- ---- laws of the places
 module _ (test : ℕ → Bool) where
   -- no place meets the test
-  pub places-all : (n : ℕ) → anyBelow n test ≡ false → placesBefore n test ≡ n
-  unfolding placesBefore anyBelow
+  pub places-all : (n : ℕ) → any_below n test ≡ false → places_before n test ≡ n
+  unfolding places_before any_below
   places-all zero h = refl
-  places-all (suc n) h = by (anyBelow n test) (test n) h
+  places-all (suc n) h = by (any_below n test) (test n) h
     where
-      by : (a b : Bool) → a || b ≡ false → cond a (placesBefore n test) (cond b n (suc n)) ≡ suc n
+      by : (a b : Bool) → a || b ≡ false → cond a (places_before n test) (cond b n (suc n)) ≡ suc n
       by true b h = absurd (true≢false h)
       by false true h = absurd (true≢false h)
       by false false h = refl
 
   -- place i is the first that does
-  pub places-found : {i : ℕ} (n : ℕ) → i < n → anyBelow i test ≡ false → test i ≡ true → placesBefore n test ≡ i
-  unfolding placesBefore
+  pub places-found : {i : ℕ} (n : ℕ) → i < n → any_below i test ≡ false → test i ≡ true → places_before n test ≡ i
+  unfolding places_before
   places-found zero l before here = absurd (not-suc-le-zero l)
   places-found {i} (suc n) l before here = elim (eq-or-lt_of_le (le_of_suc-le-suc l)) [
     | inl e ↦ rw (← e, before, here) refl

@@ -1,6 +1,6 @@
 // The move of the multipliers, and refusal 10.
 ghost use Rattle.rules.specs.Notation.{at};
-ghost use Rattle.run_moves.specs.Moves.{limitsMoved, MoveFits, Moved};
+ghost use Rattle.run_moves.specs.Moves.{limits_moved, MoveFits, Moved};
 
 use run_arithmetic::{larger, plus_64};
 
@@ -12,8 +12,8 @@ pub fn move_multipliers<'a>(
     multipliers: &'a mut [i32; 16],
     residuals: &'a [i32; 16],
 ) -> bool
-    requires { MoveFits (limitsMoved m numerator) (at multipliers.old) (at residuals.now) }
-    ensures { Moved (limitsMoved m numerator) (at residuals.now)
+    requires { MoveFits (limits_moved m numerator) (at multipliers.old) (at residuals.now) }
+    ensures { Moved (limits_moved m numerator) (at residuals.now)
         multipliers.old multipliers.new result }
 {
     let p = numerator as i64;

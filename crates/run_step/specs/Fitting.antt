@@ -4,35 +4,35 @@ use Rattle.std.proofs.Common.{sym, ap, subst, lt_of_lt_of_le, SFits}
 use Rattle.std.proofs.Math.IntN.{+ℤ_idl}
 use Rattle.std.specs.Int.{w32, w64}
 use Rattle.proof_integer.specs.Range.{bnd-sfits}
-use Rattle.proof_integer.specs.Sum.{sumTo-cong}
+use Rattle.proof_integer.specs.Sum.{sum_to-cong}
 use Rattle.rules.specs.Notation.{sum_to, at}
-use Rattle.rules.specs.Problem.{Problem, costOf, load_of}
-use Rattle.rules.specs.Step.{reducedCost, amount, residual, dualValue, lookAt}
-use Rattle.rules.specs.Run.{stateAfter, lookAfter}
+use Rattle.rules.specs.Problem.{Problem, cost_of, load_of}
+use Rattle.rules.specs.Step.{reduced_cost, amount, residual, dual_value, look_at}
+use Rattle.rules.specs.Run.{state_after, look_after}
 use Rattle.proof_magnitudes.specs.Accepted.{Accepted}
 use Rattle.proof_magnitudes.specs.Steps.{entering, amounts, residuals, residuals-are}
 use Rattle.proof_magnitudes.specs.RunMagnitudes.{RunMagnitudes}
 use Rattle.sheet_figures.specs.declared.Figures.{Figures}
-use Rattle.sheet_figures.specs.Figures.{problemIn, problemOf}
+use Rattle.sheet_figures.specs.Figures.{problem_in, problem_of}
 use Rattle.run_sums.specs.SumsFit.{SumFits}
 use Rattle.run_costs.specs.OfRun.{cost-fits}
 use Rattle.run_amounts.specs.Amounts.{AmountsFit}
 use Rattle.run_look.specs.LookFits.{ResidualsFit, LookFits}
-use Rattle.run_moves.specs.Moves.{limitsMoved, MoveFits}
+use Rattle.run_moves.specs.Moves.{limits_moved, MoveFits}
 use Rattle.run_totals.specs.Totals.{TotalsFit}
 
 -- the problem that the look is lent: all but the step numerator, which it does not use
-abbrev pub lookedAt : Figures → List ℤ → Problem
-lookedAt f a = problemIn f.materials f.limits 0 f.scale f.cost f.least f.most a f.rhs
+abbrev pub looked_at : Figures → List ℤ → Problem
+looked_at f a = problem_in f.materials f.limits 0 f.scale f.cost f.least f.most a f.rhs
 
-pub same-look : (f : Figures) (a : List ℤ) (M : ℕ → ℤ) → lookAt (lookedAt f a) M ≡ lookAt (problemOf f a) M
-unfolding lookAt amount reducedCost residual load_of dualValue costOf
+pub same-look : (f : Figures) (a : List ℤ) (M : ℕ → ℤ) → look_at (looked_at f a) M ≡ look_at (problem_of f a) M
+unfolding look_at amount reduced_cost residual load_of dual_value cost_of
 same-look f a M = refl
 
-module _ (f : Figures) (a : List ℤ) {k : ℕ} (accepted : Accepted (problemOf f a) k) (t : ℕ)
-    (large : RunMagnitudes (problemOf f a) t) where
+module _ (f : Figures) (a : List ℤ) {k : ℕ} (accepted : Accepted (problem_of f a) k) (t : ℕ)
+    (large : RunMagnitudes (problem_of f a) t) where
   abbrev P : Problem
-  P = problemOf f a
+  P = problem_of f a
 
   amounts-fit : AmountsFit P (entering P t) (replicate 32 (pos 0))
   amounts-fit = record {
@@ -65,7 +65,7 @@ module _ (f : Figures) (a : List ℤ) {k : ℕ} (accepted : Accepted (problemOf 
 
   -- D times the cost of the amounts
   abbrev costed : ℤ
-  costed = pos P.scale *ℤ costOf P (amounts P t)
+  costed = pos P.scale *ℤ cost_of P (amounts P t)
 
   -- the terms of the dual value, with the residuals as the look has them
   value-fits : SumFits w64 costed (λ i. entering P t i *ℤ residuals P t i) P.limits
@@ -78,10 +78,10 @@ module _ (f : Figures) (a : List ℤ) {k : ℕ} (accepted : Accepted (problemOf 
           → sum_to m (λ i. entering P t i *ℤ residual P (amounts P t) i)
           ≡ sum_to m (λ i. entering P t i *ℤ residuals P t i)
       by-residuals m l =
-          sumTo-cong m _ _ (λ i h. ap (λ g. entering P t i *ℤ g) (sym (residuals-are P t i (lt_of_lt_of_le h l))))
+          sum_to-cong m _ _ (λ i h. ap (λ g. entering P t i *ℤ g) (sym (residuals-are P t i (lt_of_lt_of_le h l))))
 
-  pub look-fits : LookFits (lookedAt f a) (entering P t) (replicate 32 (pos 0)) (replicate 16 (pos 0))
-  unfolding lookAfter lookAt amount reducedCost residual load_of dualValue costOf
+  pub look-fits : LookFits (looked_at f a) (entering P t) (replicate 32 (pos 0)) (replicate 16 (pos 0))
+  unfolding look_after look_at amount reduced_cost residual load_of dual_value cost_of
   look-fits =
       let cost = cost-fits accepted (amounts P t) large.step.step-cost in
       record {
@@ -97,7 +97,7 @@ module _ (f : Figures) (a : List ℤ) {k : ℕ} (accepted : Accepted (problemOf 
         value = value-fits;
       }
 
-  pub move-fits : MoveFits (limitsMoved f.limits f.numerator) (entering P t) (residuals P t)
+  pub move-fits : MoveFits (limits_moved f.limits f.numerator) (entering P t) (residuals P t)
   move-fits = record {
     few = accepted.limits-few;
     numerator = accepted.numerator-small;
@@ -105,8 +105,8 @@ module _ (f : Figures) (a : List ℤ) {k : ℕ} (accepted : Accepted (problemOf 
     uncut = λ i l. rw (residuals-are P t i l) (large.step.uncut i l).fits;
   }
 
-  pub sums-fit : TotalsFit w32 32 f.materials (at (stateAfter P t).sums) (amounts P t)
+  pub sums-fit : TotalsFit w32 32 f.materials (at (state_after P t).sums) (amounts P t)
   sums-fit = record { few = accepted.materials-few; one = λ j l. bnd-sfits tt (large.new-sum j l).magnitude }
 
-  pub totals-fit : TotalsFit w64 16 f.limits (at (stateAfter P t).residualTotals) (residuals P t)
+  pub totals-fit : TotalsFit w64 16 f.limits (at (state_after P t).residual_totals) (residuals P t)
   totals-fit = record { few = accepted.limits-few; one = λ i l. (large.new-total i l).fits }

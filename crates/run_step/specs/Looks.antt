@@ -5,46 +5,46 @@ use Rattle.std.proofs.Common.{sym, subst, ◌∙◌}
 use Rattle.std.specs.Int.Signed.{lt_z}
 use Rattle.rules.specs.Notation.{maxℤ, at}
 use Rattle.rules.specs.Problem.{Problem}
-use Rattle.rules.specs.Step.{lookAt, infeasible}
-use Rattle.rules.specs.Run.{lookAfter, closingValue, lowAfter}
+use Rattle.rules.specs.Step.{look_at, infeasible}
+use Rattle.rules.specs.Run.{look_after, closing_value, low_after}
 use Rattle.proof_laws.specs.Lengths.{amounts-length, residuals-length}
 use Rattle.proof_magnitudes.specs.Steps.{entering, amounts, residuals}
 use Rattle.proof_magnitudes.specs.RunMagnitudes.{RunMagnitudes, run-magnitudes}
 use Rattle.sheet_figures.specs.declared.Figures.{Figures}
 use Rattle.sheet_figures.specs.Padded.{padded}
-use Rattle.sheet_figures.specs.Figures.{problemOf}
+use Rattle.sheet_figures.specs.Figures.{problem_of}
 use Rattle.run_look.specs.Given.{LookIn}
 use Rattle.run_look.specs.LookFits.{LookFits}
 use Rattle.run_step.specs.declared.State.{State}
-use Rattle.run_step.specs.States.{stateIn}
+use Rattle.run_step.specs.States.{state_in}
 use Rattle.run_step.specs.Reached.{LookReady}
 use Rattle.run_step.specs.Reads.{array-reads, multipliers-read}
-use Rattle.run_step.specs.Fitting.{lookedAt, same-look, look-fits}
+use Rattle.run_step.specs.Fitting.{looked_at, same-look, look-fits}
 
 module _ {f : Figures} {a : List ℤ} {greatest : ℤ} {t : ℕ} {w : State} (ready : LookReady f a greatest t w) where
   abbrev P : Problem
-  P = problemOf f a
+  P = problem_of f a
 
   pub large : RunMagnitudes P t
   large = run-magnitudes ready.reached.accepted t ready.reached.few ready.reached.going
 
   pub multipliers-enter : at w.multipliers ≡ entering P t
-  unfolding stateIn
+  unfolding state_in
   multipliers-enter = multipliers-read ready.reached.accepted t (λ k. (ready.reached.state k).multipliers)
 
   -- what the look asks, with its two arrays of zeros
-  pub look-ready : LookFits (lookedAt f a) (at w.multipliers) (replicate 32 (pos 0)) (replicate 16 (pos 0))
+  pub look-ready : LookFits (looked_at f a) (at w.multipliers) (replicate 32 (pos 0)) (replicate 16 (pos 0))
   look-ready =
       subst
-      (λ (M : ℕ → ℤ). LookFits (lookedAt f a) M (replicate 32 (pos 0)) (replicate 16 (pos 0)))
+      (λ (M : ℕ → ℤ). LookFits (looked_at f a) M (replicate 32 (pos 0)) (replicate 16 (pos 0)))
       (sym multipliers-enter)
       (look-fits f a ready.reached.accepted t large)
 
   -- ---- what it gives: the amounts x, the residuals g and the dual value
-  module _ {x g : List ℤ} {value : ℤ} (look : LookIn (lookAt (lookedAt f a) (at w.multipliers)) x g value) where
-    look_is : lookAt (lookedAt f a) (at w.multipliers) ≡ lookAfter P t
-    unfolding lookAfter
-    look_is = same-look f a (at w.multipliers) ∙ (λ k. lookAt P (multipliers-enter k))
+  module _ {x g : List ℤ} {value : ℤ} (look : LookIn (look_at (looked_at f a) (at w.multipliers)) x g value) where
+    look_is : look_at (looked_at f a) (at w.multipliers) ≡ look_after P t
+    unfolding look_after
+    look_is = same-look f a (at w.multipliers) ∙ (λ k. look_at P (multipliers-enter k))
 
     pub amounts-read : at x ≡ amounts P t
     amounts-read =
@@ -56,15 +56,15 @@ module _ {f : Figures} {a : List ℤ} {greatest : ℤ} {t : ℕ} {w : State} (re
         array-reads 16 _ (look.residuals-are ∙ (λ k. padded 16 (look_is k).residuals))
         (residuals-length P t) ready.reached.accepted.limits-few
 
-    value-of-run : value ≡ (lookAfter P t).dualValue
-    value-of-run = look.value-is ∙ (λ k. (look_is k).dualValue)
+    value-of-run : value ≡ (look_after P t).dual_value
+    value-of-run = look.value-is ∙ (λ k. (look_is k).dual_value)
 
     -- the test of the code is that of T4.6
-    pub test-of-run : lt_z greatest value ≡ infeasible P (lookAfter P t)
+    pub test-of-run : lt_z greatest value ≡ infeasible P (look_after P t)
     unfolding infeasible
     test-of-run = λ k. lt_z (ready.greatest-is k) (value-of-run k)
 
     -- the larger of the state's low and the dual value is low after t steps (T5.3)
-    pub low-of-run : maxℤ w.low value ≡ lowAfter P t
-    unfolding stateIn lowAfter closingValue
+    pub low-of-run : maxℤ w.low value ≡ low_after P t
+    unfolding state_in low_after closing_value
     low-of-run = λ k. maxℤ (ready.reached.state k).low (value-of-run k)

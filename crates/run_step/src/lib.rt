@@ -1,8 +1,8 @@
 // One step of the dual subgradient method with a constant step, on a state by value.
 ghost use Rattle.std.specs.Prelude.{◌≡◌, suc};
-ghost use Rattle.rules.specs.Answers.{refusalAt};
-ghost use Rattle.sheet_figures.specs.Figures.{problemOf};
-ghost use Rattle.run_step.specs.States.{reachedIn, HandedBack};
+ghost use Rattle.rules.specs.Answers.{refusal_at};
+ghost use Rattle.sheet_figures.specs.Figures.{problem_of};
+ghost use Rattle.run_step.specs.States.{reached_in, HandedBack};
 ghost use Rattle.run_step.specs.Reached.{LookReady};
 
 use rules::{Cause, Refusal, Verdict};
@@ -50,9 +50,9 @@ impl State {
     // refusal 10, then the sums and the totals.
     pub fn step(self, f: Figures, coefficient: &[i16; 512], greatest: i64, t: usize) -> Stepped
         requires { LookReady f coefficient.now greatest t self }
-        ensures { HandedBack (problemOf f coefficient.now)
-            (reachedIn (problemOf f coefficient.now) (suc t))
-            (refusalAt (problemOf f coefficient.now) t) result }
+        ensures { HandedBack (problem_of f coefficient.now)
+            (reached_in (problem_of f coefficient.now) (suc t))
+            (refusal_at (problem_of f coefficient.now) t) result }
     {
         let mut w = self;
         let mut x: [i16; 32] = [0; 32];

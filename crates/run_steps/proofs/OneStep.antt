@@ -6,50 +6,50 @@ use native.Mathlib.Numerals.{add-one}
 use Rattle.rules.specs.declared.Refusal.{Refusal}
 use Rattle.rules.specs.declared.Verdict.TheVariants.{Passed, Refused}
 use Rattle.rules.specs.Problem.{Problem}
-use Rattle.rules.specs.Refusals.{numbered, refusalOf}
-use Rattle.rules.specs.Answers.{lookRefusal, refusalAt, stepRefusal, runRefusal}
+use Rattle.rules.specs.Refusals.{numbered, refusal_of}
+use Rattle.rules.specs.Answers.{look_refusal, refusal_at, step_refusal, run_refusal}
 use Rattle.proof_laws.specs.FirstPlace.{first_more, first_found, given, handed-on}
 use Rattle.run_step.specs.declared.State.{State}
 use Rattle.run_step.specs.declared.Stepped.{Stepped}
-use Rattle.run_step.specs.States.{reachedIn, handedState, HandedBack}
+use Rattle.run_step.specs.States.{reached_in, handed_state, HandedBack}
 
 -- ---- one turn of the run, where no step before t is refused
 module _ (P : Problem) (t : ℕ) {r : Stepped}
-    (before : stepRefusal P t ≡ none) (h : HandedBack P (reachedIn P (suc t)) (refusalAt P t) r) where
+    (before : step_refusal P t ≡ none) (h : HandedBack P (reached_in P (suc t)) (refusal_at P t) r) where
   -- the step goes on
   module _ (g : r.stop ≡ Passed) where
-    none_here : refusalAt P t ≡ none
-    unfolding refusalOf
-    none_here = sym h.stop ∙ ap refusalOf g
+    none_here : refusal_at P t ≡ none
+    unfolding refusal_of
+    none_here = sym h.stop ∙ ap refusal_of g
 
-    pub still-going : stepRefusal P (t + 1) ≡ none
-    unfolding stepRefusal
-    still-going = first_more (refusalAt P) before none_here
+    pub still-going : step_refusal P (t + 1) ≡ none
+    unfolding step_refusal
+    still-going = first_more (refusal_at P) before none_here
 
-    pub next-state : r.state ≡ reachedIn P (t + 1)
-    unfolding handedState
+    pub next-state : r.state ≡ reached_in P (t + 1)
+    unfolding handed_state
     next-state =
         h.state
-        ∙ (λ i. handedState P (reachedIn P (suc t)) (none_here i))
-        ∙ (λ i. reachedIn P (sym (add-one t) i))
+        ∙ (λ i. handed_state P (reached_in P (suc t)) (none_here i))
+        ∙ (λ i. reached_in P (sym (add-one t) i))
 
   -- the step is refused
   pub hands_on : (k : ℕ) → t < k → {x : Refusal} {done : State} → r.stop ≡ Refused x
-      → HandedBack P done (runRefusal P k) r
-  unfolding refusalOf handedState stepRefusal runRefusal
+      → HandedBack P done (run_refusal P k) r
+  unfolding refusal_of handed_state step_refusal run_refusal
   hands_on k l {x} {done} g =
-      let here : refusalAt P t ≡ some (numbered x) = sym h.stop ∙ ap refusalOf g in
-      let first : runRefusal P k ≡ some (numbered x) = given _ (first_found (refusalAt P) k l before here) in
+      let here : refusal_at P t ≡ some (numbered x) = sym h.stop ∙ ap refusal_of g in
+      let first : run_refusal P k ≡ some (numbered x) = given _ (first_found (refusal_at P) k l before here) in
       record {
-        stop = ap refusalOf g ∙ sym first;
+        stop = ap refusal_of g ∙ sym first;
         state =
             h.state
-            ∙ (λ i. handedState P (reachedIn P (suc t)) (here i))
-            ∙ (λ i. handedState P done (sym first i));
+            ∙ (λ i. handed_state P (reached_in P (suc t)) (here i))
+            ∙ (λ i. handed_state P done (sym first i));
       }
 
 -- ---- the closing look of c steps, of which none is refused
-pub hands-closed : (P : Problem) (c : ℕ) {done : State} {r : Stepped} → stepRefusal P c ≡ none
-    → HandedBack P done (lookRefusal P c) r → HandedBack P done (runRefusal P c) r
-unfolding runRefusal
-hands-closed P c {done} {r} going h = transport (λ i. HandedBack P done (sym (handed-on (lookRefusal P c) going) i) r) h
+pub hands-closed : (P : Problem) (c : ℕ) {done : State} {r : Stepped} → step_refusal P c ≡ none
+    → HandedBack P done (look_refusal P c) r → HandedBack P done (run_refusal P c) r
+unfolding run_refusal
+hands-closed P c {done} {r} going h = transport (λ i. HandedBack P done (sym (handed-on (look_refusal P c) going) i) r) h

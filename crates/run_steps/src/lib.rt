@@ -1,6 +1,6 @@
 // The run: k steps from the starting multipliers and the closing look, or refusals 9 and 10.
-ghost use Rattle.rules.specs.Answers.{runRefusal};
-ghost use Rattle.sheet_figures.specs.Figures.{problemOf};
+ghost use Rattle.rules.specs.Answers.{run_refusal};
+ghost use Rattle.sheet_figures.specs.Figures.{problem_of};
 ghost use Rattle.run_step.specs.Reached.{FiguresReady};
 ghost use Rattle.run_step.specs.States.{closed_in, HandedBack};
 
@@ -13,9 +13,9 @@ use sheet_figures::Figures;
 // All steps, from the starting multipliers and D times the cheapest cost as low, and then the closing look.
 pub fn run(f: Figures, coefficient: &[i16; 512]) -> Stepped
     requires { FiguresReady f coefficient.now }
-    ensures { HandedBack (problemOf f coefficient.now)
-        (closed_in (problemOf f coefficient.now) f.steps)
-        (runRefusal (problemOf f coefficient.now) f.steps) result }
+    ensures { HandedBack (problem_of f coefficient.now)
+        (closed_in (problem_of f coefficient.now) f.steps)
+        (run_refusal (problem_of f coefficient.now) f.steps) result }
 {
     let k = f.steps;
     let greatest = greatest_value(f.materials, f.scale, &f.cost, &f.least, &f.most);

@@ -7,7 +7,7 @@ use lib.IntN.{ℤ, ◌+ℤ◌, +ℤ_assoc, +ℤ_idr}
 use mir.Syntax.{Width}
 use mir.Val.{SFits, to_z, of_z}
 use mir.Facts.{to_z-of_z}
-use Rattle.proof_integer.specs.Sum.{sumTo-zero, sumTo-suc}
+use Rattle.proof_integer.specs.Sum.{sum_to-zero, sum_to-suc}
 use Rattle.rules.specs.Notation.{sum_to}
 use Rattle.run_sums.specs.SumsFit.{SumFits}
 
@@ -18,14 +18,14 @@ module _ (w : Width) (first : ℤ) (term : ℕ → ℤ) (count : ℕ) where
     pub is : to_z w sum ≡ first +ℤ sum_to i term
 
   pub turn-start : {sum : ℕ} → to_z w sum ≡ first → Turn sum 0
-  turn-start e = record { within = omega arith; is = e ∙ sym (simp (sumTo-zero, +ℤ_idr)) }
+  turn-start e = record { within = omega arith; is = e ∙ sym (simp (sum_to-zero, +ℤ_idr)) }
 
   module _ (fits : SumFits w first term count) {sum i : ℕ} (turn : Turn sum i) (l : i < count) where
     sum-next : to_z w sum +ℤ term i ≡ first +ℤ sum_to (suc i) term
     sum-next =
         ap (λ z. z +ℤ term i) turn.is
         ∙ +ℤ_assoc first (sum_to i term) (term i)
-        ∙ ap (λ z. first +ℤ z) (sym (sumTo-suc i term))
+        ∙ ap (λ z. first +ℤ z) (sym (sum_to-suc i term))
 
     -- the sum with term i fits
     pub sum_fits : SFits w (to_z w sum +ℤ term i)

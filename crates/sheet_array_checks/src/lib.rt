@@ -1,11 +1,11 @@
 // The tests of figures in plain arrays, and how many of them are not 0. Refusals 2, 4, 6 and 7.
 ghost use Rattle.std.specs.Prelude.{◌≡◌, length};
-ghost use Rattle.rules.specs.Refusals.{refusalOf};
-ghost use Rattle.rules_arrays.specs.Arrays.{lengthsMatch, arrays, arraysRefusal};
-ghost use Rattle.rules_arrays.specs.ReadBack.{presentIn};
+ghost use Rattle.rules.specs.Refusals.{refusal_of};
+ghost use Rattle.rules_arrays.specs.Arrays.{lengths_match, arrays, arrays_refusal};
+ghost use Rattle.rules_arrays.specs.ReadBack.{present_in};
 ghost use Rattle.sheet_arrays.specs.Runs.{entry};
-ghost use Rattle.sheet_arrays.specs.Tested.{outside, anyOutside, arraysOutside};
-ghost use Rattle.sheet_array_checks.specs.Checks.{SmallShape, amountsRefusal, AsMany};
+ghost use Rattle.sheet_arrays.specs.Tested.{outside, any_outside, arrays_outside};
+ghost use Rattle.sheet_array_checks.specs.Checks.{SmallShape, amounts_refusal, AsMany};
 
 use rules::{Cause, Kind, Shape, Sizes, Verdict};
 use sheet_header::refused;
@@ -21,7 +21,7 @@ fn present(figure: i32) -> usize
 
 // How many figures of an array are not 0.
 pub fn present_in(figures: &[i32]) -> usize
-    ensures { result ≡ presentIn figures.now }
+    ensures { result ≡ present_in figures.now }
 {
     let mut count: usize = 0;
     let mut i: usize = 0;
@@ -44,7 +44,7 @@ fn outside(kind: Kind, figure: i32) -> bool
 
 // Whether some figure of an array is.
 fn any_outside(kind: Kind, figures: &[i32]) -> bool
-    ensures { result ≡ anyOutside kind figures.now }
+    ensures { result ≡ any_outside kind figures.now }
 {
     let mut i: usize = 0;
     while i < figures.len() {
@@ -65,7 +65,7 @@ fn figures_outside(
     b: &[i32],
     start: &[i32],
 ) -> bool
-    ensures { result ≡ arraysOutside (arrays cost.now least.now most.now
+    ensures { result ≡ arrays_outside (arrays cost.now least.now most.now
         a.now b.now start.now) }
 {
     any_outside(Kind::Cost, cost)
@@ -87,7 +87,7 @@ fn lengths_match(
     start: &[i32],
 ) -> bool
     requires { SmallShape shape }
-    ensures { result ≡ lengthsMatch shape (arrays cost.now least.now most.now
+    ensures { result ≡ lengths_match shape (arrays cost.now least.now most.now
         a.now b.now start.now) }
 {
     let n = shape.materials;
@@ -103,7 +103,7 @@ fn lengths_match(
 // Refusal 7: the first material whose least amount is above its most.
 fn check_amounts(least: &[i32], most: &[i32]) -> Verdict
     requires { AsMany least.now most.now }
-    ensures { refusalOf result ≡ amountsRefusal least.now most.now }
+    ensures { refusal_of result ≡ amounts_refusal least.now most.now }
 {
     let mut j: usize = 0;
     while j < least.len() {
@@ -127,7 +127,7 @@ pub fn check_arrays(
     b: &[i32],
     start: &[i32],
 ) -> Verdict
-    ensures { refusalOf result ≡ arraysRefusal sizes (arrays cost.now least.now
+    ensures { refusal_of result ≡ arrays_refusal sizes (arrays cost.now least.now
         most.now a.now b.now start.now) }
 {
     let shape = sizes.shape;

@@ -10,10 +10,10 @@ use Rattle.rules.specs.declared.Shape.{Shape}
 use Rattle.rules.specs.Sheet.{key_of}
 use Rattle.rules.specs.Encoder.{picked}
 use Rattle.rules_arrays.specs.Arrays.{Arrays}
-use Rattle.rules_arrays.specs.ReadBack.{presentIn, figuresPresent}
+use Rattle.rules_arrays.specs.ReadBack.{present_in, figures_present}
 use Rattle.sheet_arrays.specs.Runs.{Entry, entry, entry-short, run, run-split}
 use Rattle.sheet_arrays.specs.Lengths.{LengthsMatch}
-use Rattle.sheet_arrays.specs.Listed.{materialEntries, limitEntries, limitsEntries, entriesOf}
+use Rattle.sheet_arrays.specs.Listed.{material_entries, limit_entries, limits_entries, entries_of}
 
 -- how many of the first figures are not 0
 unfoldable pub counted : ℕ → (ℕ → ℤ) → ℕ
@@ -50,24 +50,24 @@ counted-split a b f =
     ∙ rw (length-append, run_length 0 a f, run_length (0 + a) b _)
 
 -- of a whole array
-pub present-is : (xs : List ℤ) {n : ℕ} → length xs ≡ n → presentIn xs ≡ counted n (at xs)
-unfolding presentIn counted
+pub present-is : (xs : List ℤ) {n : ℕ} → length xs ≡ n → present_in xs ≡ counted n (at xs)
+unfolding present_in counted
 present-is xs e = rw e
 
 -- ---- the entries of the arrays
 module _ (shape : Shape) (A : Arrays) where
   abbrev limits : ℕ → List Entry
-  limits i = limitsEntries shape.materials A.coefficients A.rightHandSides A.starts i
+  limits i = limits_entries shape.materials A.coefficients A.right_hand_sides A.starts i
 
   limits-length : (i : ℕ) → length (limits i)
-      ≡ counted (shape.materials * i) (at A.coefficients) + counted i (at A.rightHandSides)
+      ≡ counted (shape.materials * i) (at A.coefficients) + counted i (at A.right_hand_sides)
       + counted i (at A.starts)
-  unfolding limitsEntries limitEntries
+  unfolding limits_entries limit_entries
   limits-length zero = rw mul-zero (unfold counted picked in refl)
   limits-length (suc i) =
       let n = shape.materials in
       let a = at A.coefficients in
-      let b = at A.rightHandSides in
+      let b = at A.right_hand_sides in
       let s = at A.starts in
       let row : counted (n * suc i) a ≡ counted (n * i) a + counted n (λ j. a (n * i + j)) =
       ap (λ (c : ℕ). counted c a) (mul-suc n i) ∙ counted-split (n * i) n a in
@@ -75,15 +75,15 @@ module _ (shape : Shape) (A : Arrays) where
       let start = counted-more (key_of (3 + i) (n + 1)) i s in
       simp (length-append, run_length, limits-length i) (omega (arith, row, rhs, start))
 
-  pub entries-length : LengthsMatch shape A → length (entriesOf shape A) ≡ figuresPresent A
-  unfolding entriesOf materialEntries figuresPresent
+  pub entries-length : LengthsMatch shape A → length (entries_of shape A) ≡ figures_present A
+  unfolding entries_of material_entries figures_present
   entries-length match =
       simp (length-append, run_length, limits-length shape.limits) (omega (
         arith,
         present-is A.costs match.costs,
-        present-is A.leastAmounts match.leastAmounts,
-        present-is A.mostAmounts match.mostAmounts,
+        present-is A.least_amounts match.least_amounts,
+        present-is A.most_amounts match.most_amounts,
         present-is A.coefficients match.coefficients,
-        present-is A.rightHandSides match.rightHandSides,
+        present-is A.right_hand_sides match.right_hand_sides,
         present-is A.starts match.starts,
       ))

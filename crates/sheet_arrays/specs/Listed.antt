@@ -9,9 +9,9 @@ use native.Mathlib.Omega.{arith}
 use Rattle.std.proofs.Math.ListN.{length-append}
 use Rattle.rules.specs.Notation.{at}
 use Rattle.rules.specs.declared.Shape.{Shape}
-use Rattle.rules.specs.Sheet.{Table, key_of, row_of, columnOf}
-use Rattle.rules.specs.Encoder.{allKeys}
-use Rattle.rules.specs.Refusals.{noFigureAt}
+use Rattle.rules.specs.Sheet.{Table, key_of, row_of, column_of}
+use Rattle.rules.specs.Encoder.{all_keys}
+use Rattle.rules.specs.Refusals.{no_figure_at}
 use Rattle.rules_arrays.specs.Arrays.{Arrays, gathered}
 use Rattle.proof_laws.specs.Entries.{parts-key, past-materials, past-starts, past-limits}
 use Rattle.sheet_arrays.specs.Runs.{Entry, entry, run, run-cong, run_none, run-split}
@@ -20,37 +20,37 @@ use Rattle.sheet_arrays.specs.Gathered.{cost-at, least_at, most-at, coefficient-
 
 -- ---- the entries of the arrays
 -- those of n materials
-unfoldable pub materialEntries : ℕ → (costs leastAmounts mostAmounts : List ℤ) → List Entry
-materialEntries n costs leastAmounts mostAmounts =
-    run (key_of 0 0) n (at costs) ++ run (key_of 1 0) n (at leastAmounts) ++ run (key_of 2 0) n (at mostAmounts)
+unfoldable pub material_entries : ℕ → (costs least_amounts most_amounts : List ℤ) → List Entry
+material_entries n costs least_amounts most_amounts =
+    run (key_of 0 0) n (at costs) ++ run (key_of 1 0) n (at least_amounts) ++ run (key_of 2 0) n (at most_amounts)
 
-module _ (n : ℕ) (coefficients rightHandSides starts : List ℤ) where
+module _ (n : ℕ) (coefficients right_hand_sides starts : List ℤ) where
   -- those of limit i
-  unfoldable pub limitEntries : ℕ → List Entry
-  limitEntries i =
+  unfoldable pub limit_entries : ℕ → List Entry
+  limit_entries i =
       run (key_of (3 + i) 0) n (λ j. at coefficients (n * i + j))
-      ++ entry (key_of (3 + i) n) (at rightHandSides i)
+      ++ entry (key_of (3 + i) n) (at right_hand_sides i)
       ++ entry (key_of (3 + i) (n + 1)) (at starts i)
 
   -- those of the first limits
-  unfoldable pub limitsEntries : ℕ → List Entry
-  limitsEntries zero = []
-  limitsEntries (suc i) = limitsEntries i ++ limitEntries i
+  unfoldable pub limits_entries : ℕ → List Entry
+  limits_entries zero = []
+  limits_entries (suc i) = limits_entries i ++ limit_entries i
 
   -- those of one limit more are no more than those of all
-  pub limits-grow : {i : ℕ} (m : ℕ) → i < m → length (limitsEntries (suc i)) ≤ length (limitsEntries m)
-  unfolding limitsEntries
+  pub limits-grow : {i : ℕ} (m : ℕ) → i < m → length (limits_entries (suc i)) ≤ length (limits_entries m)
+  unfolding limits_entries
   limits-grow {i} zero l = absurd (not-suc-le-zero l)
   limits-grow {i} (suc m) l = elim (eq-or-lt_of_le (le_of_suc-le-suc l)) [
     | inl e ↦ rw e (le_refl _)
-    | inr k ↦ omega (arith, limits-grow m k, length-append (limitsEntries m) (limitEntries m))
+    | inr k ↦ omega (arith, limits-grow m k, length-append (limits_entries m) (limit_entries m))
   ]
 
 -- all of them
-unfoldable pub entriesOf : Shape → Arrays → List Entry
-entriesOf shape A =
-    materialEntries shape.materials A.costs A.leastAmounts A.mostAmounts
-    ++ limitsEntries shape.materials A.coefficients A.rightHandSides A.starts shape.limits
+unfoldable pub entries_of : Shape → Arrays → List Entry
+entries_of shape A =
+    material_entries shape.materials A.costs A.least_amounts A.most_amounts
+    ++ limits_entries shape.materials A.coefficients A.right_hand_sides A.starts shape.limits
 
 -- ---- a row of a table that has figures in the first w columns alone
 row-run : (T : Table) (row w : ℕ) (f : ℕ → ℤ) → w ≤ 64
@@ -82,16 +82,16 @@ module _ (shape : Shape) (A : Arrays) (narrow : shape.materials ≤ 32) (few : s
   T = gathered shape A
 
   abbrev materials : List Entry
-  materials = materialEntries n A.costs A.leastAmounts A.mostAmounts
+  materials = material_entries n A.costs A.least_amounts A.most_amounts
 
   abbrev limit : ℕ → List Entry
-  limit i = limitEntries n A.coefficients A.rightHandSides A.starts i
+  limit i = limit_entries n A.coefficients A.right_hand_sides A.starts i
 
   abbrev limits : ℕ → List Entry
-  limits i = limitsEntries n A.coefficients A.rightHandSides A.starts i
+  limits i = limits_entries n A.coefficients A.right_hand_sides A.starts i
 
   -- past the figures of a row there is none
-  past : (row w : ℕ) → ((j : ℕ) → w ≤ j → noFigureAt shape row j ≡ true)
+  past : (row w : ℕ) → ((j : ℕ) → w ≤ j → no_figure_at shape row j ≡ true)
       → (j : ℕ) → w ≤ j → j < 64 → T (key_of row j) ≡ pos 0
   past row w none j a b = gathered_none shape A row j b (none j a)
 
@@ -105,19 +105,19 @@ module _ (shape : Shape) (A : Arrays) (narrow : shape.materials ≤ 32) (few : s
   no_row = refl
 
   materials-listed : run 0 (3 * 64) T ≡ materials
-  unfolding materialEntries
+  unfolding material_entries
   materials-listed =
       material-row 2 _ (omega arith) (most-at shape A narrow)
-      ∙ ap (λ (xs : List Entry). xs ++ run (key_of 2 0) n (at A.mostAmounts))
+      ∙ ap (λ (xs : List Entry). xs ++ run (key_of 2 0) n (at A.most_amounts))
       (material-row 1 _ (omega arith) (least_at shape A narrow)
-      ∙ ap (λ (xs : List Entry). xs ++ run (key_of 1 0) n (at A.leastAmounts))
+      ∙ ap (λ (xs : List Entry). xs ++ run (key_of 1 0) n (at A.least_amounts))
       (material-row 0 _ (omega arith) (cost-at shape A narrow)
       ∙ ap (λ (xs : List Entry). xs ++ run (key_of 0 0) n (at A.costs)) no_row))
 
   module _ (i : ℕ) (l : i < shape.limits) where
     -- the last two columns of a limit's row
     rhs-entry : entry (key_of (3 + i) 0 + n) (T (key_of (3 + i) n))
-        ≡ entry (key_of (3 + i) n) (at A.rightHandSides i)
+        ≡ entry (key_of (3 + i) n) (at A.right_hand_sides i)
     rhs-entry = let key : key_of (3 + i) 0 + n ≡ key_of (3 + i) n = omega arith in
         λ k. entry (key k) (rhs-at shape A narrow i l k)
 
@@ -130,7 +130,7 @@ module _ (shape : Shape) (A : Arrays) (narrow : shape.materials ≤ 32) (few : s
         ∙ ap (entry (key_of (3 + i) (n + 1))) (start-at shape A narrow i l)
 
     figures : run (key_of (3 + i) 0) (n + 2) (λ j. T (key_of (3 + i) j)) ≡ limit i
-    unfolding limitEntries run
+    unfolding limit_entries run
     figures =
         let width : n + 2 ≡ suc (suc n) = omega arith in
         let coefficients =
@@ -145,7 +145,7 @@ module _ (shape : Shape) (A : Arrays) (narrow : shape.materials ≤ 32) (few : s
         ∙ ap (λ (xs : List Entry). run 0 ((3 + i) * 64) T ++ xs) figures
 
   limits-listed : (i : ℕ) → i ≤ shape.limits → run 0 ((3 + i) * 64) T ≡ materials ++ limits i
-  unfolding limitsEntries
+  unfolding limits_entries
   limits-listed zero l = materials-listed ∙ sym (append-nil materials)
   limits-listed (suc i) l =
       let row : 3 + suc i ≡ suc (3 + i) = omega arith in
@@ -155,17 +155,17 @@ module _ (shape : Shape) (A : Arrays) (narrow : shape.materials ≤ 32) (few : s
       ∙ append_assoc materials _ _
 
   -- the entries of the table are those of the arrays
-  pub entries-listed : run 0 allKeys T ≡ entriesOf shape A
-  unfolding entriesOf
+  pub entries-listed : run 0 all_keys T ≡ entries_of shape A
+  unfolding entries_of
   entries-listed =
       let used = (3 + shape.limits) * 64 in
-      let whole : allKeys ≡ used + (allKeys - used) = omega arith in
-      let rest : run (0 + used) (allKeys - used) (λ j. T (used + j)) ≡ [] =
-      run_none (0 + used) (allKeys - used) _ (λ j l.
+      let whole : all_keys ≡ used + (all_keys - used) = omega arith in
+      let rest : run (0 + used) (all_keys - used) (λ j. T (used + j)) ≡ [] =
+      run_none (0 + used) (all_keys - used) _ (λ j l.
       sym (ap T (parts-key (used + j)))
-      ∙ gathered_none shape A (row_of (used + j)) (columnOf (used + j)) (omega arith)
-      (past-limits shape (row_of (used + j)) (columnOf (used + j)) (omega arith))) in
+      ∙ gathered_none shape A (row_of (used + j)) (column_of (used + j)) (omega arith)
+      (past-limits shape (row_of (used + j)) (column_of (used + j)) (omega arith))) in
       ap (λ (c : ℕ). run 0 c T) whole
-      ∙ run-split 0 used (allKeys - used) T
+      ∙ run-split 0 used (all_keys - used) T
       ∙ ap₂ ◌++◌ (limits-listed shape.limits (le_refl _)) rest
       ∙ append-nil _

@@ -1,9 +1,9 @@
 // The checks of a sheet that store nothing: its keys, and its bounds once they are stored. Refusals 5 and 7.
 ghost use Rattle.std.specs.Prelude.{◌≡◌};
-ghost use Rattle.rules.specs.Sheet.{sheetOf};
-ghost use Rattle.rules.specs.Refusals.{refusalOf, keyRefusal};
+ghost use Rattle.rules.specs.Sheet.{sheet_of};
+ghost use Rattle.rules.specs.Refusals.{refusal_of, key_refusal};
 ghost use Rattle.sheet_header.specs.Header.{Headed};
-ghost use Rattle.sheet_checks.specs.Bounds.{FewMaterials, crossedRefusal};
+ghost use Rattle.sheet_checks.specs.Bounds.{FewMaterials, crossed_refusal};
 
 use bytes_read::size_at;
 use rules::{Cause, Verdict};
@@ -14,7 +14,7 @@ use sheet_table::place_at;
 // Refusal 5: the first entry whose key is bad.
 pub fn check_keys(s: &[u8], header: Header) -> Verdict
     requires { Headed s.now header }
-    ensures { refusalOf result ≡ keyRefusal (sheetOf s.now) }
+    ensures { refusal_of result ≡ key_refusal (sheet_of s.now) }
 {
     let sizes = header.sizes;
     let shape = sizes.shape;
@@ -36,7 +36,7 @@ pub fn check_keys(s: &[u8], header: Header) -> Verdict
 // Refusal 7: the first material whose least amount is above its most.
 pub fn check_bounds(n: usize, table: &[i32; 646]) -> Verdict
     requires { FewMaterials n }
-    ensures { refusalOf result ≡ crossedRefusal n table.now }
+    ensures { refusal_of result ≡ crossed_refusal n table.now }
 {
     let mut j: usize = 0;
     while j < n {

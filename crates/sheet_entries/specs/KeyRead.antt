@@ -1,20 +1,20 @@
 -- Reading a key.
 use Rattle.std.specs.Prelude.{Bool, ◌||◌, ℕ, ltb}
 use Rattle.rules.specs.declared.Shape.{Shape}
-use Rattle.rules.specs.Sheet.{row_of, columnOf}
-use Rattle.rules.specs.Refusals.{noFigureAt}
+use Rattle.rules.specs.Sheet.{row_of, column_of}
+use Rattle.rules.specs.Refusals.{no_figure_at}
 use Rattle.proof_laws.specs.Read.{Read, gives, refused, unless}
 use Rattle.sheet_entries.specs.declared.Key.{Key}
 use Rattle.sheet_entries.specs.declared.Key.TheVariants.{Good, Bad}
 
 -- what each answer stands for: the key, or refusal 5
-unfoldable pub keyAnswered : Key → Read ℕ
-keyAnswered (Good key) = gives key
-keyAnswered Bad = refused 5
+unfoldable pub key_answered : Key → Read ℕ
+key_answered (Good key) = gives key
+key_answered Bad = refused 5
 
 -- is a key bad, where `floor` is the least that it may be?
-abbrev pub keyBad : Shape → ℕ → ℕ → Bool
-keyBad shape floor key = noFigureAt shape (row_of key) (columnOf key) || ltb key floor
+abbrev pub key_bad : Shape → ℕ → ℕ → Bool
+key_bad shape floor key = no_figure_at shape (row_of key) (column_of key) || ltb key floor
 
-unfoldable pub keyRead : Shape → ℕ → ℕ → Read ℕ
-keyRead shape floor key = unless 5 (keyBad shape floor key) (gives key)
+unfoldable pub key_read : Shape → ℕ → ℕ → Read ℕ
+key_read shape floor key = unless 5 (key_bad shape floor key) (gives key)

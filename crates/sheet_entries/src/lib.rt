@@ -1,8 +1,8 @@
 // One entry of a sheet: its key and its value.
 ghost use Rattle.std.specs.Prelude.{◌≡◌};
 ghost use Rattle.sheet_kinds.specs.Meaning.{FewLimits};
-ghost use Rattle.sheet_entries.specs.KeyRead.{keyAnswered, keyRead};
-ghost use Rattle.sheet_entries.specs.EntryRead.{entryAnswered, entryRead};
+ghost use Rattle.sheet_entries.specs.KeyRead.{key_answered, key_read};
+ghost use Rattle.sheet_entries.specs.EntryRead.{entry_answered, entry_read};
 
 use rules::{Cause, Shape};
 use sheet_kinds::{Meaning, meaning_at};
@@ -25,7 +25,7 @@ pub enum EntryValue {
 // A key. `floor` is the least that it may be: one more than the key before, if there is one, and else 0.
 pub fn read_key(shape: Shape, floor: usize, key: usize) -> Key
     requires { FewLimits shape }
-    ensures { keyAnswered result ≡ keyRead shape floor key }
+    ensures { key_answered result ≡ key_read shape floor key }
 {
     let meaning = meaning_at(shape, key / 64, key % 64);
     let Meaning::Figure(_) = meaning else {
@@ -40,7 +40,7 @@ pub fn read_key(shape: Shape, floor: usize, key: usize) -> Key
 // An entry: refusal 5 where its key names no figure, and 6 where its value is 0 or outside its range.
 pub fn read_entry(shape: Shape, key: usize, value: i32) -> EntryValue
     requires { FewLimits shape }
-    ensures { entryAnswered result ≡ entryRead shape key value }
+    ensures { entry_answered result ≡ entry_read shape key value }
 {
     let row = key / 64;
     let column = key % 64;

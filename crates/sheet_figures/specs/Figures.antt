@@ -7,7 +7,7 @@ use Rattle.rules.specs.Problem.{Problem}
 use Rattle.proof_integer.specs.Vector.{tabulate-cong}
 use Rattle.proof_laws.specs.Agreeing.{Agree}
 use Rattle.sheet_figures.specs.declared.Figures.{Figures}
-use Rattle.sheet_figures.specs.Put.{put, putRows, put-cong, put-here, rows-cong, rows-here}
+use Rattle.sheet_figures.specs.Put.{put, put_rows, put-cong, put-here, rows-cong, rows-here}
 use Rattle.sheet_figures.specs.Padded.{padded, filled, fill_start, fill-next}
 
 -- n figures in an array of `room` places, and 0 at the others
@@ -15,8 +15,8 @@ unfoldable pub array : ℕ → ℕ → (ℕ → ℤ) → List ℤ
 array room n f = put (replicate room (pos 0)) 0 n f
 
 -- the figures of a problem in arrays of 32 and 16 places
-unfoldable pub figuresOf : Problem → ℕ → Figures
-figuresOf P k = record {
+unfoldable pub figures_of : Problem → ℕ → Figures
+figures_of P k = record {
   materials = P.materials;
   limits = P.limits;
   numerator = P.numerator;
@@ -26,16 +26,16 @@ figuresOf P k = record {
   least = array 32 P.materials P.least;
   most = array 32 P.materials P.most;
   rhs = array 16 P.limits P.rhs;
-  start = array 16 P.limits P.startingMultiplier;
+  start = array 16 P.limits P.starting_multiplier;
 }
 
 -- the coefficients of a problem in a lent array: a row of 32 places for each limit; the other places stay as lent
-unfoldable pub coefficientsOver : List ℤ → Problem → List ℤ
-coefficientsOver lent P = putRows lent P.limits P.materials P.coefficient
+unfoldable pub coefficients_over : List ℤ → Problem → List ℤ
+coefficients_over lent P = put_rows lent P.limits P.materials P.coefficient
 
 -- ---- the problem whose figures stand in arrays, with multipliers that begin at s
-abbrev startedIn : (n m p D : ℕ) → (c l u a b s : List ℤ) → Problem
-startedIn n m p D c l u a b s = record {
+abbrev started_in : (n m p D : ℕ) → (c l u a b s : List ℤ) → Problem
+started_in n m p D c l u a b s = record {
   materials = n;
   limits = m;
   numerator = p;
@@ -45,21 +45,21 @@ startedIn n m p D c l u a b s = record {
   most = at u;
   coefficient = λ i j. at a (32 * i + j);
   rhs = at b;
-  startingMultiplier = at s;
+  starting_multiplier = at s;
 }
 
 -- and with none: a step looks at no start
-abbrev pub problemIn : (n m p D : ℕ) → (c l u a b : List ℤ) → Problem
-problemIn n m p D c l u a b = startedIn n m p D c l u a b []
+abbrev pub problem_in : (n m p D : ℕ) → (c l u a b : List ℤ) → Problem
+problem_in n m p D c l u a b = started_in n m p D c l u a b []
 
 -- the problem whose figures these are
-abbrev pub problemOf : Figures → List ℤ → Problem
-problemOf F a =
-    startedIn F.materials F.limits F.numerator F.scale F.cost F.least F.most a F.rhs F.start
+abbrev pub problem_of : Figures → List ℤ → Problem
+problem_of F a =
+    started_in F.materials F.limits F.numerator F.scale F.cost F.least F.most a F.rhs F.start
 
 -- no figures: every size and every place is 0
-unfoldable pub noFigures : Figures
-noFigures = figuresOf (problemIn 0 0 0 0 [] [] [] [] []) 0
+unfoldable pub no_figures : Figures
+no_figures = figures_of (problem_in 0 0 0 0 [] [] [] [] []) 0
 
 -- ---- what stands at each place
 -- figure j stands at place j
@@ -84,8 +84,8 @@ array_whole room n f fits =
 
 -- the arrays of a problem hold its figures
 pub in-arrays : (P : Problem) (k : ℕ) (lent : List ℤ) → P.materials ≤ 32 → P.limits ≤ 16 → length lent ≡ 512
-    → Agree (problemOf (figuresOf P k) (coefficientsOver lent P)) P
-unfolding figuresOf coefficientsOver
+    → Agree (problem_of (figures_of P k) (coefficients_over lent P)) P
+unfolding figures_of coefficients_over
 in-arrays P k lent narrow few room = record {
   materials = refl;
   limits = refl;
@@ -96,7 +96,7 @@ in-arrays P k lent narrow few room = record {
   most = array-here 32 P.materials P.most narrow;
   coefficient = rows-here lent P.limits P.materials P.coefficient narrow (omega arith);
   rhs = array-here 16 P.limits P.rhs few;
-  startingMultiplier = array-here 16 P.limits P.startingMultiplier few;
+  starting_multiplier = array-here 16 P.limits P.starting_multiplier few;
 }
 
 -- ---- problems that agree have the same arrays
@@ -107,8 +107,8 @@ module _ {P Q : Problem} (same : Agree P Q) where
   array_same room {n} {m} f g e h =
       (λ i. put (replicate room (pos 0)) 0 (e i) f) ∙ put-cong (replicate room (pos 0)) 0 m f g h
 
-  pub figures-same : (k : ℕ) → figuresOf P k ≡ figuresOf Q k
-  unfolding figuresOf
+  pub figures-same : (k : ℕ) → figures_of P k ≡ figures_of Q k
+  unfolding figures_of
   figures-same k = λ i. record {
     materials = same.materials i;
     limits = same.limits i;
@@ -120,11 +120,11 @@ module _ {P Q : Problem} (same : Agree P Q) where
     most = array_same 32 P.most Q.most same.materials same.most i;
     rhs = array_same 16 P.rhs Q.rhs same.limits same.rhs i;
     start =
-        array_same 16 P.startingMultiplier Q.startingMultiplier same.limits same.startingMultiplier i;
+        array_same 16 P.starting_multiplier Q.starting_multiplier same.limits same.starting_multiplier i;
   }
 
-  pub coefficients-same : (lent : List ℤ) → coefficientsOver lent P ≡ coefficientsOver lent Q
-  unfolding coefficientsOver
+  pub coefficients-same : (lent : List ℤ) → coefficients_over lent P ≡ coefficients_over lent Q
+  unfolding coefficients_over
   coefficients-same lent =
-      (λ i. putRows lent (same.limits i) (same.materials i) P.coefficient)
+      (λ i. put_rows lent (same.limits i) (same.materials i) P.coefficient)
       ∙ rows-cong lent Q.limits Q.materials P.coefficient Q.coefficient same.coefficient

@@ -44,32 +44,32 @@ put-cong xs from (suc n) f g h =
     ap₂ (λ (ys : List ℤ) v. set ys (from + n) v) (put-cong xs from n f g (λ j l. h j (le_step l))) (h n (lt-suc_self n))
 
 -- ---- m rows of n figures, each row 32 places on
-unfoldable pub putRows : List ℤ → ℕ → ℕ → (ℕ → ℕ → ℤ) → List ℤ
-putRows xs zero n f = xs
-putRows xs (suc m) n f = put (putRows xs m n f) (32 * m) n (f m)
+unfoldable pub put_rows : List ℤ → ℕ → ℕ → (ℕ → ℕ → ℤ) → List ℤ
+put_rows xs zero n f = xs
+put_rows xs (suc m) n f = put (put_rows xs m n f) (32 * m) n (f m)
 
-length-rows : (xs : List ℤ) (m n : ℕ) (f : ℕ → ℕ → ℤ) → length (putRows xs m n f) ≡ length xs
-unfolding putRows
+length-rows : (xs : List ℤ) (m n : ℕ) (f : ℕ → ℕ → ℤ) → length (put_rows xs m n f) ≡ length xs
+unfolding put_rows
 length-rows xs zero n f = refl
-length-rows xs (suc m) n f = length-put (putRows xs m n f) _ n (f m) ∙ length-rows xs m n f
+length-rows xs (suc m) n f = length-put (put_rows xs m n f) _ n (f m) ∙ length-rows xs m n f
 
 -- figure j of row i stands j places on in it
 pub rows-here : (xs : List ℤ) (m n : ℕ) (f : ℕ → ℕ → ℤ) → n ≤ 32 → 32 * m ≤ length xs → (i j : ℕ) → i < m → j < n
-    → at (putRows xs m n f) (32 * i + j) ≡ f i j
-unfolding putRows
+    → at (put_rows xs m n f) (32 * i + j) ≡ f i j
+unfolding put_rows
 rows-here xs zero n f narrow room i j l k = absurd (not-suc-le-zero l)
 rows-here xs (suc m) n f narrow room i j l k = elim (eq-or-lt_of_le (le_of_suc-le-suc l)) [
-  | inl e ↦ rw e (put-here (putRows xs m n f) (32 * m) n (f m) (rw length-rows (omega arith)) j k)
+  | inl e ↦ rw e (put-here (put_rows xs m n f) (32 * m) n (f m) (rw length-rows (omega arith)) j k)
   | inr b ↦
-      put_other (putRows xs m n f) (32 * m) n (f m) (32 * i + j) (λ c d e. omega arith)
+      put_other (put_rows xs m n f) (32 * m) n (f m) (32 * i + j) (λ c d e. omega arith)
       ∙ rows-here xs m n f narrow (omega arith) i j b k
 ]
 
 -- only the first m rows of n figures count
 pub rows-cong : (xs : List ℤ) (m n : ℕ) (f g : ℕ → ℕ → ℤ) → ((i j : ℕ) → i < m → j < n → f i j ≡ g i j)
-    → putRows xs m n f ≡ putRows xs m n g
-unfolding putRows
+    → put_rows xs m n f ≡ put_rows xs m n g
+unfolding put_rows
 rows-cong xs zero n f g h = refl
 rows-cong xs (suc m) n f g h =
     (λ k. put (rows-cong xs m n f g (λ i j l. h i j (le_step l)) k) (32 * m) n (f m))
-    ∙ put-cong (putRows xs m n g) (32 * m) n (f m) (g m) (λ j l. h m j (lt-suc_self m) l)
+    ∙ put-cong (put_rows xs m n g) (32 * m) n (f m) (g m) (λ j l. h m j (lt-suc_self m) l)

@@ -1,8 +1,8 @@
 // The header of a sheet: its sizes, refusal 1, and refusals 2 to 4.
 ghost use Rattle.std.specs.Prelude.{◌≡◌, length};
-ghost use Rattle.rules.specs.Sheet.{sheetOf};
-ghost use Rattle.rules.specs.Refusals.{refusalOf, sizesRefusal};
-ghost use Rattle.sheet_header.specs.Header.{HasHeader, headerAnswered, headerRead};
+ghost use Rattle.rules.specs.Sheet.{sheet_of};
+ghost use Rattle.rules.specs.Refusals.{refusal_of, sizes_refusal};
+ghost use Rattle.sheet_header.specs.Header.{HasHeader, header_answered, header_read};
 
 use bytes_read::size_at;
 use rules::{Cause, Refusal, Shape, Sizes, Verdict};
@@ -38,7 +38,7 @@ pub fn refused(place: usize, cause: Cause) -> Verdict
 
 // The header of a sheet: n, m, e, p, D and k come first, 2 bytes each.
 pub fn read_header(s: &[u8]) -> HeaderRead
-    ensures { headerAnswered result ≡ headerRead s.now }
+    ensures { header_answered result ≡ header_read s.now }
 {
     if s.len() < HEADER {
         return HeaderRead::Short;
@@ -61,7 +61,7 @@ pub fn read_header(s: &[u8]) -> HeaderRead
 // Refusals 2 to 4.
 pub fn check_header(s: &[u8], header: Header) -> Verdict
     requires { HasHeader s.now header }
-    ensures { refusalOf result ≡ sizesRefusal (sheetOf s.now) (length s.now) }
+    ensures { refusal_of result ≡ sizes_refusal (sheet_of s.now) (length s.now) }
 {
     let sizes = header.sizes;
     let shape = sizes.shape;

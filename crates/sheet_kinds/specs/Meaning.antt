@@ -3,19 +3,19 @@ use Rattle.std.specs.Prelude.{ℕ, ◌≤◌}
 use Rattle.rules.specs.declared.Shape.{Shape}
 use Rattle.rules.specs.declared.Kind.{Kind}
 use Rattle.rules.specs.Ranges.{kind_at}
-use Rattle.rules.specs.Refusals.{noFigureAt}
+use Rattle.rules.specs.Refusals.{no_figure_at}
 use Rattle.sheet_kinds.specs.declared.Meaning.{Meaning}
 use Rattle.sheet_kinds.specs.declared.Meaning.TheVariants.{Figure, Nothing}
 use Rattle.proof_laws.specs.Read.{Read, gives, refused, unless}
 
 -- what each answer stands for: a kind, or refusal 5
-unfoldable pub meaningOf : Meaning → Read Kind
-meaningOf (Figure kind) = gives kind
-meaningOf Nothing = refused 5
+unfoldable pub meaning_of : Meaning → Read Kind
+meaning_of (Figure kind) = gives kind
+meaning_of Nothing = refused 5
 
 -- the kind that the row decides, unless there is no figure
-unfoldable pub meaningAt : Shape → ℕ → ℕ → Read Kind
-meaningAt shape row column = unless 5 (noFigureAt shape row column) (gives (kind_at shape row column))
+unfoldable pub meaning_at : Shape → ℕ → ℕ → Read Kind
+meaning_at shape row column = unless 5 (no_figure_at shape row column) (gives (kind_at shape row column))
 
 -- what the match on rows 3 to 18 asks
 pub record FewLimits (shape : Shape) : Type 0 where

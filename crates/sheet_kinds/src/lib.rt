@@ -1,7 +1,7 @@
 // What a row and a column of a sheet mean: a figure of a kind, or nothing.
 ghost use Rattle.std.specs.Prelude.{◌≡◌, ◌||◌, ◌+◌, ltb, leb};
 ghost use Rattle.rules.specs.Ranges.{kind_at};
-ghost use Rattle.sheet_kinds.specs.Meaning.{FewLimits, meaningOf, meaningAt};
+ghost use Rattle.sheet_kinds.specs.Meaning.{FewLimits, meaning_of, meaning_at};
 ghost use Rattle.proof_laws.specs.Read.{gives, unless};
 
 use rules::{Kind, Shape};
@@ -15,7 +15,7 @@ pub enum Meaning {
 
 // A figure of a material stands in the columns below n.
 fn of_material(kind: Kind, shape: Shape, column: usize) -> Meaning
-    ensures { meaningOf result
+    ensures { meaning_of result
         ≡ unless 5 (ltb (shape.materials + 1) column || leb shape.materials column) (gives kind) }
 {
     let n = shape.materials;
@@ -28,7 +28,7 @@ fn of_material(kind: Kind, shape: Shape, column: usize) -> Meaning
 
 // In a limit's row, its coefficients stand in the columns below n, then its right-hand side and its start.
 fn of_limit(shape: Shape, column: usize) -> Meaning
-    ensures { meaningOf result ≡ unless 5 (ltb (shape.materials + 1) column) (gives (kind_at shape 3 column)) }
+    ensures { meaning_of result ≡ unless 5 (ltb (shape.materials + 1) column) (gives (kind_at shape 3 column)) }
 {
     let n = shape.materials;
     if column < n {
@@ -45,7 +45,7 @@ fn of_limit(shape: Shape, column: usize) -> Meaning
 // What stands at a row and a column (T3.2).
 pub fn meaning_at(shape: Shape, row: usize, column: usize) -> Meaning
     requires { FewLimits shape }
-    ensures { meaningOf result ≡ meaningAt shape row column }
+    ensures { meaning_of result ≡ meaning_at shape row column }
 {
     let m = shape.limits;
     match row {

@@ -3,15 +3,15 @@ use Rattle.std.specs.Prelude.{◌≡◌, refl, List, [], ◌++◌, ℕ, ◌+◌,
 use Rattle.std.proofs.Common.{sym, ◌∙◌, append-nil, add-zero, arith, take-append-drop}
 use Rattle.std.proofs.Math.Path.{ap}
 use Rattle.std.proofs.Math.ListN.{length, length-append}
-use Rattle.rules.specs.Bytes.{unsignedBytes, signedBytes, laid}
-use Rattle.bytes_write.specs.Written.{written, writtenAt}
+use Rattle.rules.specs.Bytes.{unsigned_bytes, signed_bytes, laid}
+use Rattle.bytes_write.specs.Written.{written, written_at}
 use Rattle.bytes_write.specs.Placed.{length-placed, placed_on, placed-apart}
 use Rattle.sheet_arrays.specs.Runs.{Entry, entry, entry-none, entry-one}
-use Rattle.sheet_arrays.specs.Laid.{keyBytes, valueBytes, keys-append, values-append, length-keys, length-values}
+use Rattle.sheet_arrays.specs.Laid.{key_bytes, value_bytes, keys-append, values-append, length-keys, length-values}
 
 -- the buffer, once entries are put after the first c
-unfoldable pub putEntries : ℕ → ℕ → List Entry → List ℕ → List ℕ
-putEntries e c es d = writtenAt (12 + 2 * e + 4 * c) (valueBytes es) (writtenAt (12 + 2 * c) (keyBytes es) d)
+unfoldable pub put_entries : ℕ → ℕ → List Entry → List ℕ → List ℕ
+put_entries e c es d = written_at (12 + 2 * e + 4 * c) (value_bytes es) (written_at (12 + 2 * c) (key_bytes es) d)
 
 -- the buffer takes e entries, and among them so many more after the first c
 pub record EntriesRoom (e c more : ℕ) (d : List ℕ) : Type 0 where
@@ -21,12 +21,12 @@ pub record EntriesRoom (e c more : ℕ) (d : List ℕ) : Type 0 where
 
 -- entries are put after the first c, and r counts them all
 pub record Put (e c : ℕ) (es : List Entry) (d d' : List ℕ) (r : ℕ) : Type 0 where
-  pub buffer : d' ≡ putEntries e c es d
+  pub buffer : d' ≡ put_entries e c es d
   pub count : r ≡ c + length es
 
 -- none is put
 pub put-none : (e c : ℕ) (d : List ℕ) → Put e c [] d d c
-unfolding putEntries writtenAt written keyBytes valueBytes laid
+unfolding put_entries written_at written key_bytes value_bytes laid
 put-none e c d = record {
   buffer = sym (take-append-drop (12 + 2 * e + 4 * c) _ ∙ take-append-drop (12 + 2 * c) d);
   count = sym (add-zero c);
@@ -34,14 +34,14 @@ put-none e c d = record {
 
 -- ---- laws of putting entries
 module _ (e c : ℕ) (es : List Entry) (d : List ℕ) (room : EntriesRoom e c (length es) d) where
-  keys-fit : 12 + 2 * c + length (keyBytes es) ≤ length d
+  keys-fit : 12 + 2 * c + length (key_bytes es) ≤ length d
   keys-fit = omega (arith, length-keys es, room.enough, room.long)
 
-  pub length-put : length (putEntries e c es d) ≡ length d
-  unfolding putEntries
+  pub length-put : length (put_entries e c es d) ≡ length d
+  unfolding put_entries
   length-put =
-      let same = length-placed (12 + 2 * c) (keyBytes es) d keys-fit in
-      length-placed (12 + 2 * e + 4 * c) (valueBytes es) (writtenAt (12 + 2 * c) (keyBytes es) d)
+      let same = length-placed (12 + 2 * c) (key_bytes es) d keys-fit in
+      length-placed (12 + 2 * e + 4 * c) (value_bytes es) (written_at (12 + 2 * c) (key_bytes es) d)
       (omega (arith, length-values es, same, room.enough, room.long))
       ∙ same
 
@@ -70,24 +70,24 @@ module _ {e c : ℕ} (xs ys : List Entry) {d : List ℕ} (room : EntriesRoom e c
 
     -- and then the others
     pub put-more : {d'' : List ℕ} {r' : ℕ} → Put e r ys d' d'' r' → Put e c (xs ++ ys) d d'' r'
-    unfolding putEntries
+    unfolding put_entries
     put-more second =
         let keys-at = 12 + 2 * c in
         let values-at = 12 + 2 * e + 4 * c in
-        let kx = keyBytes xs in
-        let ky = keyBytes ys in
-        let vx = valueBytes xs in
-        let vy = valueBytes ys in
+        let kx = key_bytes xs in
+        let ky = key_bytes ys in
+        let vx = value_bytes xs in
+        let vy = value_bytes ys in
         let key-place : 12 + 2 * r ≡ keys-at + length kx = omega (arith, first.count, length-keys xs) in
         let value-place : 12 + 2 * e + 4 * r ≡ values-at + length vx = omega (arith, first.count, length-values xs) in
         let keys_in : keys-at + length kx ≤ length d = omega (arith, length-keys xs, all, room.long) in
-        let keyed = writtenAt keys-at kx d in
+        let keyed = written_at keys-at kx d in
         let same : length keyed ≡ length d = length-placed keys-at kx d keys_in in
         let apart = placed-apart (keys-at + length kx) values-at ky vx keyed
         (omega (arith, length-keys xs, length-keys ys, all))
         (omega (arith, same, all, room.long)) in
         let keys = placed_on keys-at kx ky d keys_in in
-        let both-keyed = writtenAt keys-at (kx ++ ky) d in
+        let both-keyed = written_at keys-at (kx ++ ky) d in
         let both-same : length both-keyed ≡ length d = length-placed keys-at (kx ++ ky) d
         (omega (arith, length-append kx ky, length-keys xs, length-keys ys, all, room.long)) in
         let values = placed_on values-at vx vy both-keyed
@@ -95,11 +95,11 @@ module _ {e c : ℕ} (xs ys : List Entry) {d : List ℕ} (room : EntriesRoom e c
         record {
           buffer =
               second.buffer
-              ∙ (λ t. writtenAt (value-place t) vy (writtenAt (key-place t) ky (first.buffer t)))
-              ∙ ap (writtenAt (values-at + length vx) vy) (apart ∙ ap (writtenAt values-at vx) keys)
+              ∙ (λ t. written_at (value-place t) vy (written_at (key-place t) ky (first.buffer t)))
+              ∙ ap (written_at (values-at + length vx) vy) (apart ∙ ap (written_at values-at vx) keys)
               ∙ values
               ∙ (λ t.
-              writtenAt values-at (sym (values-append xs ys) t) (writtenAt keys-at (sym (keys-append xs ys) t) d));
+              written_at values-at (sym (values-append xs ys) t) (written_at keys-at (sym (keys-append xs ys) t) d));
           count = second.count ∙ omega (arith, first.count, length-append xs ys);
         }
 
@@ -110,17 +110,17 @@ put-absent e c key d z = rw (entry-none key z) (put-none e c d)
 
 -- any other is a key and a value
 pub put-present : (e c key : ℕ) (figure : ℤ) {d d' d'' : List ℕ} → (figure ≡ pos 0 → ⊥)
-    → d' ≡ writtenAt (12 + 2 * c) (unsignedBytes 2 key) d
-    → d'' ≡ writtenAt (12 + 2 * e + 4 * c) (signedBytes 4 figure) d' → Put e c (entry key figure) d d'' (c + 1)
-unfolding putEntries keyBytes valueBytes laid
+    → d' ≡ written_at (12 + 2 * c) (unsigned_bytes 2 key) d
+    → d'' ≡ written_at (12 + 2 * e + 4 * c) (signed_bytes 4 figure) d' → Put e c (entry key figure) d d'' (c + 1)
+unfolding put_entries key_bytes value_bytes laid
 put-present e c key figure {d} there wrote-key Wrote-value =
     let values-at = 12 + 2 * e + 4 * c in
-    let key-bytes = sym (append-nil (unsignedBytes 2 key)) in
-    let value-bytes = sym (append-nil (signedBytes 4 figure)) in
+    let key-bytes = sym (append-nil (unsigned_bytes 2 key)) in
+    let value-bytes = sym (append-nil (signed_bytes 4 figure)) in
     rw (entry-one key figure there) (record {
       buffer =
           Wrote-value
-          ∙ (λ t. writtenAt values-at (value-bytes t) (wrote-key t))
-          ∙ (λ t. writtenAt values-at (signedBytes 4 figure ++ []) (writtenAt (12 + 2 * c) (key-bytes t) d));
+          ∙ (λ t. written_at values-at (value-bytes t) (wrote-key t))
+          ∙ (λ t. written_at values-at (signed_bytes 4 figure ++ []) (written_at (12 + 2 * c) (key-bytes t) d));
       count = refl;
     })

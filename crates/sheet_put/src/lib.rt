@@ -5,7 +5,7 @@ ghost use Rattle.std.specs.Prelude.{◌≡◌};
 ghost use Rattle.bytes_write.specs.Written.{written};
 ghost use Rattle.bytes_write.specs.Number.{Room};
 ghost use Rattle.sheet_arrays.specs.Runs.{entry};
-ghost use Rattle.sheet_arrays.specs.Laid.{sizeBytes};
+ghost use Rattle.sheet_arrays.specs.Laid.{size_bytes};
 ghost use Rattle.sheet_put.specs.Put.{Put};
 ghost use Rattle.sheet_put.specs.Ready.{FigureReady};
 
@@ -15,7 +15,7 @@ use rules::Sizes;
 // The six sizes of a sheet of e entries.
 pub fn put_sizes(sheet: &mut [u8], sizes: Sizes, e: usize)
     requires { Room 0 12 sheet.old }
-    ensures { sheet.new ≡ written (sizeBytes sizes e) sheet.old }
+    ensures { sheet.new ≡ written (size_bytes sizes e) sheet.old }
 {
     let shape = sizes.shape;
     put_unsigned(sheet, 0, 2, shape.materials as u64);

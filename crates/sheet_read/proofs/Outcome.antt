@@ -5,21 +5,21 @@ use mathlib.Core.Option.{Option, none, some}
 use lib.IntN.{ℤ}
 use Rattle.rules.specs.declared.Verdict.{Verdict}
 use Rattle.rules.specs.Sheet.{Sheet, problem}
-use Rattle.rules.specs.Refusals.{Numbered, refusalOf}
-use Rattle.sheet_figures.specs.Figures.{figuresOf, coefficientsOver}
+use Rattle.rules.specs.Refusals.{Numbered, refusal_of}
+use Rattle.sheet_figures.specs.Figures.{figures_of, coefficients_over}
 use Rattle.sheet_read.specs.declared.Reading.{Reading}
-use Rattle.sheet_read.specs.Reading.{figuresUnless, coefficientsUnless, withoutFigures, Reads}
+use Rattle.sheet_read.specs.Reading.{figures_unless, coefficients_unless, without_figures, Reads}
 
 module _ (S : Sheet) {refusal : Option Numbered} {lent : List ℤ} {r : Reading} where
-  pub turned-back : (v : Verdict) {x : Numbered} → r ≡ withoutFigures v → refusalOf v ≡ some x → refusal ≡ some x
+  pub turned-back : (v : Verdict) {x : Numbered} → r ≡ without_figures v → refusal_of v ≡ some x → refusal ≡ some x
       → Reads S refusal lent lent r
-  unfolding withoutFigures figuresUnless coefficientsUnless
+  unfolding without_figures figures_unless coefficients_unless
   turned-back v e given h = rw e (record { verdict = given ∙ sym h; figures = rw h; coefficients = rw h })
 
-  pub read_whole : {after : List ℤ} → refusalOf r.verdict ≡ none → refusal ≡ none
-      → r.figures ≡ figuresOf (problem S) S.sizes.steps → after ≡ coefficientsOver lent (problem S)
+  pub read_whole : {after : List ℤ} → refusal_of r.verdict ≡ none → refusal ≡ none
+      → r.figures ≡ figures_of (problem S) S.sizes.steps → after ≡ coefficients_over lent (problem S)
       → Reads S refusal lent after r
-  unfolding figuresUnless coefficientsUnless
+  unfolding figures_unless coefficients_unless
   read_whole passed h e c = record { verdict = passed ∙ sym h; figures = rw h e; coefficients = rw h c }
 
   -- the same refusal, told another way

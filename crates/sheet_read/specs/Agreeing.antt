@@ -4,43 +4,43 @@ use Rattle.std.proofs.Common.{sym, ◌∙◌}
 use Rattle.std.proofs.Math.Path.{transport}
 use Rattle.std.proofs.Math.Option.{none}
 use Rattle.rules.specs.Problem.{Problem}
-use Rattle.rules.specs.Sheet.{sheetOf, problem}
-use Rattle.rules.specs.Refusals.{layoutRefusal}
+use Rattle.rules.specs.Sheet.{sheet_of, problem}
+use Rattle.rules.specs.Refusals.{layout_refusal}
 use Rattle.proof_laws.specs.Agreeing.{Agree}
 use Rattle.proof_magnitudes.specs.Accepted.{Accepted, accepted, accepted-same}
-use Rattle.sheet_figures.specs.Figures.{figuresOf, coefficientsOver, problemOf, in-arrays}
+use Rattle.sheet_figures.specs.Figures.{figures_of, coefficients_over, problem_of, in-arrays}
 use Rattle.sheet_read.specs.declared.Reading.{Reading}
-use Rattle.sheet_read.specs.Reading.{figuresUnless, coefficientsUnless, Reads}
+use Rattle.sheet_read.specs.Reading.{figures_unless, coefficients_unless, Reads}
 
-module _ (s : List ℕ) (read : layoutRefusal s ≡ none) (lent : List ℤ) (long : length lent ≡ 512)
-    {a : List ℤ} {r : Reading} (reads : Reads (sheetOf s) (layoutRefusal s) lent a r) where
+module _ (s : List ℕ) (read : layout_refusal s ≡ none) (lent : List ℤ) (long : length lent ≡ 512)
+    {a : List ℤ} {r : Reading} (reads : Reads (sheet_of s) (layout_refusal s) lent a r) where
   abbrev P : Problem
-  P = problem (sheetOf s)
+  P = problem (sheet_of s)
 
   abbrev k : ℕ
-  k = (sheetOf s).sizes.steps
+  k = (sheet_of s).sizes.steps
 
   -- what the arrays are
-  pub figures-are : r.figures ≡ figuresOf P k
-  unfolding figuresUnless
-  figures-are = reads.figures ∙ (λ i. figuresUnless (read i) (sheetOf s))
+  pub figures-are : r.figures ≡ figures_of P k
+  unfolding figures_unless
+  figures-are = reads.figures ∙ (λ i. figures_unless (read i) (sheet_of s))
 
-  pub coefficients-are : a ≡ coefficientsOver lent P
-  unfolding coefficientsUnless
-  coefficients-are = reads.coefficients ∙ (λ i. coefficientsUnless (read i) (sheetOf s) lent)
+  pub coefficients-are : a ≡ coefficients_over lent P
+  unfolding coefficients_unless
+  coefficients-are = reads.coefficients ∙ (λ i. coefficients_unless (read i) (sheet_of s) lent)
 
   pub steps-are : r.figures.steps ≡ k
-  unfolding figuresOf
+  unfolding figures_of
   steps-are = λ i. (figures-are i).steps
 
   -- the problem in them is the sheet's
-  pub agree : Agree (problemOf r.figures a) P
+  pub agree : Agree (problem_of r.figures a) P
   agree =
       let h = accepted s read in
-      transport (λ i. Agree (problemOf (sym figures-are i) (sym coefficients-are i)) P)
+      transport (λ i. Agree (problem_of (sym figures-are i) (sym coefficients-are i)) P)
       (in-arrays P k lent h.materials-few h.limits-few long)
 
   -- and lies in its ranges
-  pub accepted-in-arrays : Accepted (problemOf r.figures a) r.figures.steps
-  accepted-in-arrays = transport (λ i. Accepted (problemOf r.figures a) (sym steps-are i))
+  pub accepted-in-arrays : Accepted (problem_of r.figures a) r.figures.steps
+  accepted-in-arrays = transport (λ i. Accepted (problem_of r.figures a) (sym steps-are i))
       (accepted-same agree (accepted s read))

@@ -1,10 +1,10 @@
 // A sheet's bytes to its figures, or to refusals 1 to 7.
 ghost use Rattle.std.specs.Prelude.{◌≡◌};
-ghost use Rattle.rules.specs.Sheet.{sheetOf};
-ghost use Rattle.rules.specs.Refusals.{layoutRefusal};
-ghost use Rattle.sheet_figures.specs.Figures.{noFigures};
+ghost use Rattle.rules.specs.Sheet.{sheet_of};
+ghost use Rattle.rules.specs.Refusals.{layout_refusal};
+ghost use Rattle.sheet_figures.specs.Figures.{no_figures};
 ghost use Rattle.sheet_checks.specs.Keys.{Keyed};
-ghost use Rattle.sheet_read.specs.Reading.{withoutFigures, Reads, figuresRefusal};
+ghost use Rattle.sheet_read.specs.Reading.{without_figures, Reads, figures_refusal};
 
 use rules::{Cause, Verdict};
 use sheet_checks::{check_bounds, check_keys};
@@ -22,7 +22,7 @@ pub struct Reading {
 
 // The figures of a refused sheet.
 fn no_figures() -> Figures
-    ensures { result ≡ noFigures }
+    ensures { result ≡ no_figures }
 {
     Figures {
         materials: 0,
@@ -40,7 +40,7 @@ fn no_figures() -> Figures
 
 // A refusal, as the reading of a sheet.
 fn without_figures(verdict: Verdict) -> Reading
-    ensures { result ≡ withoutFigures verdict }
+    ensures { result ≡ without_figures verdict }
 {
     Reading {
         verdict: verdict,
@@ -51,7 +51,7 @@ fn without_figures(verdict: Verdict) -> Reading
 // The figures, or refusal 6 or 7.
 fn read_figures(s: &[u8], header: Header, coefficient: &mut [i16; 512]) -> Reading
     requires { Keyed s.now header }
-    ensures { Reads (sheetOf s.now) (figuresRefusal (sheetOf s.now))
+    ensures { Reads (sheet_of s.now) (figures_refusal (sheet_of s.now))
         coefficient.old coefficient.new result }
 {
     let mut table: [i32; 646] = [0; 646];
@@ -74,7 +74,7 @@ fn read_figures(s: &[u8], header: Header, coefficient: &mut [i16; 512]) -> Readi
 
 // Reads a sheet. Its coefficients go to a lent array, which stays as lent where the sheet is refused.
 pub fn read_sheet(s: &[u8], coefficient: &mut [i16; 512]) -> Reading
-    ensures { Reads (sheetOf s.now) (layoutRefusal s.now)
+    ensures { Reads (sheet_of s.now) (layout_refusal s.now)
         coefficient.old coefficient.new result }
 {
     let read = read_header(s);

@@ -18,11 +18,11 @@ use Rattle.rules.specs.declared.Kind.{Kind}
 use Rattle.rules.specs.declared.Kind.TheVariants.{Cost, Least, Most, Coefficient, Rhs, Start}
 use Rattle.rules.specs.declared.Shape.{Shape}
 use Rattle.rules.specs.declared.Sizes.{Sizes}
-use Rattle.rules.specs.Sheet.{row_of, columnOf}
-use Rattle.rules.specs.Ranges.{ranges, index_of, range_of, kind_at, in_range, between, parametersInRange}
-use Rattle.rules.specs.Encoder.{allKeys}
-use Rattle.rules.specs.Refusals.{noFigureAt, valueBad}
-use Rattle.rules_arrays.specs.Arrays.{Arrays, figureOf, gathered, figureBad, tableRefusal, arraysRefusal}
+use Rattle.rules.specs.Sheet.{row_of, column_of}
+use Rattle.rules.specs.Ranges.{ranges, index_of, range_of, kind_at, in_range, between, parameters_in_range}
+use Rattle.rules.specs.Encoder.{all_keys}
+use Rattle.rules.specs.Refusals.{no_figure_at, value_bad}
+use Rattle.rules_arrays.specs.Arrays.{Arrays, figure_of, gathered, figure_bad, table_refusal, arrays_refusal}
 use Rattle.sheet_arrays.specs.Accepted.{shape-in}
 use Rattle.sheet_written.specs.ReadBack.{Fit}
 use Rattle.sheet_written.specs.Shaped.{Shaped}
@@ -62,12 +62,12 @@ never : false ≡ true → ⊥
 never h = let z : ◌≡◌ {A = ℕ} 0 1 = cc in omega arith
 
 -- so does a figure that is not bad
-good-fits : (shape : Shape) (key : ℕ) (v : ℤ) → figureBad shape key v ≡ false → SFits w32 v
-unfolding figureBad valueBad
+good-fits : (shape : Shape) (key : ℕ) (v : ℤ) → figure_bad shape key v ≡ false → SFits w32 v
+unfolding figure_bad value_bad
 good-fits shape key v h = by (is_zero v) refl (in_range (range_of kind) v) refl
   where
     kind : Kind
-    kind = kind_at shape (row_of key) (columnOf key)
+    kind = kind_at shape (row_of key) (column_of key)
 
     by : (z : Bool) → is_zero v ≡ z → (inside : Bool) → in_range (range_of kind) v ≡ inside → SFits w32 v
     by true z inside r = rw (zero_is v z) (sfits_lit tt)
@@ -75,19 +75,19 @@ good-fits shape key v h = by (is_zero v) refl (in_range (range_of kind) v) refl
     by false z false r = absurd (never (sym h ∙ (λ t. not (z t) && (z t || not (r t)))))
 
 -- ---- what is not refused fits
-module _ (z : Sizes) (A : Arrays) (accepted : arraysRefusal z A ≡ none) where
-  parameters-fit : parametersInRange z ≡ true → (z.numerator ≤ 1024) × (z.scale ≤ 1024) × (z.steps ≤ 4096)
-  unfolding parametersInRange between
+module _ (z : Sizes) (A : Arrays) (accepted : arrays_refusal z A ≡ none) where
+  parameters-fit : parameters_in_range z ≡ true → (z.numerator ≤ 1024) × (z.scale ≤ 1024) × (z.steps ≤ 4096)
+  unfolding parameters_in_range between
   parameters-fit h =
-      let t : T (parametersInRange z) = rw h tt in
+      let t : T (parameters_in_range z) = rw h tt in
       (search (and_l, and_r, leb_yes), search (and_l, and_r, leb_yes), search (and_l, and_r, leb_yes))
 
-  pub table-refusal : tableRefusal z (gathered z.shape A) ≡ none
-  unfolding arraysRefusal
+  pub table-refusal : table_refusal z (gathered z.shape A) ≡ none
+  unfolding arrays_refusal
   table-refusal = (otherwise-none _ _ accepted).1
 
   pub accepted-fit : Fit z (gathered z.shape A)
-  unfolding tableRefusal
+  unfolding table_refusal
   accepted-fit =
       let shape = shape-in z A accepted in
       let (_, later) = otherwise-none _ _ table-refusal in
@@ -102,34 +102,34 @@ module _ (z : Sizes) (A : Arrays) (accepted : arraysRefusal z A ≡ none) where
           scale = omega arith;
           steps = omega arith;
         };
-        values = λ q l. good-fits z.shape q _ (fails _ (any_none allKeys _ (refuse-none 6 0 _ figures) q l));
+        values = λ q l. good-fits z.shape q _ (fails _ (any_none all_keys _ (refuse-none 6 0 _ figures) q l));
       }
 
 -- ---- figures of 32 bits
 pub record FiguresFit (A : Arrays) : Type 0 where
   pub costs : (i : ℕ) → SFits w32 (at A.costs i)
-  pub leastAmounts : (i : ℕ) → SFits w32 (at A.leastAmounts i)
-  pub mostAmounts : (i : ℕ) → SFits w32 (at A.mostAmounts i)
+  pub least_amounts : (i : ℕ) → SFits w32 (at A.least_amounts i)
+  pub most_amounts : (i : ℕ) → SFits w32 (at A.most_amounts i)
   pub coefficients : (i : ℕ) → SFits w32 (at A.coefficients i)
-  pub rightHandSides : (i : ℕ) → SFits w32 (at A.rightHandSides i)
+  pub right_hand_sides : (i : ℕ) → SFits w32 (at A.right_hand_sides i)
   pub starts : (i : ℕ) → SFits w32 (at A.starts i)
 
 -- each stands in the table, or 0 does
 module _ (shape : Shape) (A : Arrays) (fit : FiguresFit A) where
-  figure-fits : (kind : Kind) (row column : ℕ) → SFits w32 (figureOf shape A kind row column)
-  unfolding figureOf
+  figure-fits : (kind : Kind) (row column : ℕ) → SFits w32 (figure_of shape A kind row column)
+  unfolding figure_of
   figure-fits Cost row column = fit.costs _
-  figure-fits Least row column = fit.leastAmounts _
-  figure-fits Most row column = fit.mostAmounts _
+  figure-fits Least row column = fit.least_amounts _
+  figure-fits Most row column = fit.most_amounts _
   figure-fits Coefficient row column = fit.coefficients _
-  figure-fits Rhs row column = fit.rightHandSides _
+  figure-fits Rhs row column = fit.right_hand_sides _
   figure-fits Start row column = fit.starts _
 
   pub gathered-fits : (q : ℕ) → SFits w32 (gathered shape A q)
   unfolding gathered
-  gathered-fits q = by (noFigureAt shape (row_of q) (columnOf q))
+  gathered-fits q = by (no_figure_at shape (row_of q) (column_of q))
     where
       by : (b : Bool)
-          → SFits w32 (cond b (pos 0) (figureOf shape A (kind_at shape (row_of q) (columnOf q)) (row_of q) (columnOf q)))
+          → SFits w32 (cond b (pos 0) (figure_of shape A (kind_at shape (row_of q) (column_of q)) (row_of q) (column_of q)))
       by true = sfits_lit tt
       by false = figure-fits _ _ _

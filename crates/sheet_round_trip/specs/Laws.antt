@@ -11,11 +11,11 @@ use Rattle.proof_laws.specs.FirstPlace.{refuse-no, handed-on}
 use Rattle.proof_laws.specs.NotRefused.{otherwise-none}
 use Rattle.proof_laws.specs.Outputs.{long-enough}
 use Rattle.rules.specs.declared.Sizes.{Sizes}
-use Rattle.rules.specs.Ranges.{mostEntries, largest}
-use Rattle.rules.specs.Sheet.{headerLength, sheetLength, sheetOf, table_of, problemFrom, problem}
-use Rattle.rules.specs.Refusals.{layoutRefusal}
-use Rattle.rules_arrays.specs.Arrays.{Arrays, lengthsMatch, gathered, sheetFrom, arraysRefusal, writeRefusal}
-use Rattle.rules_arrays.specs.ReadBack.{SameFigures, ReadsAs, arraysOf, unplaced, figuresPresent}
+use Rattle.rules.specs.Ranges.{most_entries, largest}
+use Rattle.rules.specs.Sheet.{header_length, sheet_length, sheet_of, table_of, problem_from, problem}
+use Rattle.rules.specs.Refusals.{layout_refusal}
+use Rattle.rules_arrays.specs.Arrays.{Arrays, lengths_match, gathered, sheet_from, arrays_refusal, write_refusal}
+use Rattle.rules_arrays.specs.ReadBack.{SameFigures, ReadsAs, arrays_of, unplaced, figures_present}
 use Rattle.sheet_arrays.specs.Accepted.{shape-in, few-present, wanted-is}
 use Rattle.sheet_written.specs.Accepted.{accepted-sizes}
 use Rattle.sheet_written.specs.BytesFit.{sizes-fit, table_fits}
@@ -26,35 +26,35 @@ use Rattle.sheet_round_trip.specs.Fits.{gathered-shaped, accepted-fit, table-ref
 use Rattle.sheet_round_trip.specs.Figures.{figures-of, figures-at}
 use Rattle.sheet_round_trip.specs.Own.{own-figures, own-lengths, ProblemFits, own-fit}
 
-module _ (z : Sizes) (A : Arrays) (room : ℕ) (written : writeRefusal z A room ≡ none) where
-  accepted : arraysRefusal z A ≡ none
-  unfolding writeRefusal
+module _ (z : Sizes) (A : Arrays) (room : ℕ) (written : write_refusal z A room ≡ none) where
+  accepted : arrays_refusal z A ≡ none
+  unfolding write_refusal
   accepted = (otherwise-none _ _ written).0
 
   -- T13.7: what is written is read back
-  pub read_back : ReadsAs z A (sheetFrom z A)
-  unfolding sheetFrom
+  pub read_back : ReadsAs z A (sheet_from z A)
+  unfolding sheet_from
   read_back =
       let fit = accepted-fit z A accepted in
       let reads = read-alone fit in
       let shape = shape-in z A accepted in
-      let s = sheetFrom z A in
+      let s = sheet_from z A in
       record {
         accepted = written-accepted z _ fit (gathered-shaped z.shape A) (table-refusal z A accepted);
         sizes = reads.sizes;
         figures =
-            subst (λ (y : Sizes). SameFigures (problemFrom y (table_of (sheetOf s))) A) (sym reads.sizes)
-            (figures-of z A (table_of (sheetOf s)) shape.narrow shape.few reads.values);
+            subst (λ (y : Sizes). SameFigures (problem_from y (table_of (sheet_of s))) A) (sym reads.sizes)
+            (figures-of z A (table_of (sheet_of s)) shape.narrow shape.few reads.values);
       }
 
   -- T13.10: 12 bytes, and 6 for each figure that is not 0
-  pub sheet-length : length (sheetFrom z A) ≡ 12 + 6 * figuresPresent A
+  pub sheet-length : length (sheet_from z A) ≡ 12 + 6 * figures_present A
   sheet-length = wanted-is z A accepted
 
 -- T13.9: the reader refuses what the encoder makes of refused sizes and figures as the writer does
-pub refused-alike : (z : Sizes) (A : Arrays) → lengthsMatch z.shape A ≡ true → SizesFit z → FiguresFit A
-    → unplaced (layoutRefusal (sheetFrom z A)) ≡ arraysRefusal z A
-unfolding sheetFrom arraysRefusal
+pub refused-alike : (z : Sizes) (A : Arrays) → lengths_match z.shape A ≡ true → SizesFit z → FiguresFit A
+    → unplaced (layout_refusal (sheet_from z A)) ≡ arrays_refusal z A
+unfolding sheet_from arrays_refusal
 refused-alike z A lengths sizes figures =
     written-refused z (gathered z.shape A)
     (record { sizes = sizes; values = λ q l. gathered-fits z.shape A figures q })
@@ -62,59 +62,59 @@ refused-alike z A lengths sizes figures =
     ∙ sym (handed-on _ (refuse-no 2 0 (ap not lengths)))
 
 -- T10.6: a buffer of the longest sheet's length takes every sheet
-pub never-8 : (z : Sizes) (A : Arrays) (room : ℕ) → arraysRefusal z A ≡ none → sheetLength (mostEntries largest) ≤ room
-    → writeRefusal z A room ≡ none
-unfolding writeRefusal headerLength
+pub never-8 : (z : Sizes) (A : Arrays) (room : ℕ) → arrays_refusal z A ≡ none → sheet_length (most_entries largest) ≤ room
+    → write_refusal z A room ≡ none
+unfolding write_refusal header_length
 never-8 z A room accepted long =
     handed-on _ accepted
-    ∙ long-enough 8 (sheetFrom z A) (wanted-is z A accepted) (omega (arith, few-present z A accepted))
+    ∙ long-enough 8 (sheet_from z A) (wanted-is z A accepted) (omega (arith, few-present z A accepted))
 
 -- T13.8: a table has a single sheet
 pub single-sheet : (z : Sizes) (A : Arrays) (s : List ℕ) → ((i : ℕ) → Fits w8 (get_or s i 0)) → ReadsAs z A s
-    → s ≡ sheetFrom z A
-unfolding sheetFrom
+    → s ≡ sheet_from z A
+unfolding sheet_from
 single-sheet z A s bytes reads =
     let narrow : z.shape.materials ≤ 32 =
     subst (λ (y : Sizes). y.shape.materials ≤ 32) reads.sizes (accepted-sizes s reads.accepted).narrow in
-    let U = table_of (sheetOf s) in
-    let figures = subst (λ (y : Sizes). SameFigures (problemFrom y U) A) reads.sizes reads.figures in
+    let U = table_of (sheet_of s) in
+    let figures = subst (λ (y : Sizes). SameFigures (problem_from y U) A) reads.sizes reads.figures in
     only-sheet z (gathered z.shape A) s (gathered-shaped z.shape A) bytes reads.accepted reads.sizes
     (figures-at z A U narrow figures)
 
 -- T13.8: so writing what a sheet reads as gives the sheet back
-module _ (s : List ℕ) (bytes : (i : ℕ) → Fits w8 (get_or s i 0)) (read : layoutRefusal s ≡ none) where
+module _ (s : List ℕ) (bytes : (i : ℕ) → Fits w8 (get_or s i 0)) (read : layout_refusal s ≡ none) where
   abbrev z : Sizes
-  z = (sheetOf s).sizes
+  z = (sheet_of s).sizes
 
   abbrev A : Arrays
-  A = arraysOf (problem (sheetOf s))
+  A = arrays_of (problem (sheet_of s))
 
-  pub written-again : sheetFrom z A ≡ s
+  pub written-again : sheet_from z A ≡ s
   written-again =
       sym (single-sheet z A s bytes (record {
         accepted = read;
         sizes = refl;
-        figures = own-figures (problem (sheetOf s));
+        figures = own-figures (problem (sheet_of s));
       }))
 
   -- without a refusal, in a buffer that is as long
-  pub again-accepted : (room : ℕ) → length s ≤ room → writeRefusal z A room ≡ none
-  unfolding writeRefusal problemFrom unplaced
+  pub again-accepted : (room : ℕ) → length s ≤ room → write_refusal z A room ≡ none
+  unfolding write_refusal problem_from unplaced
   again-accepted room long =
-      let P = problem (sheetOf s) in
+      let P = problem (sheet_of s) in
       let figures : ProblemFits P = record {
         cost = λ j. fits _;
         least = λ j. fits _;
         most = λ j. fits _;
         coefficient = λ i j. fits _;
         rhs = λ i. fits _;
-        startingMultiplier = λ i. fits _;
+        starting_multiplier = λ i. fits _;
       } in
-      let arrays : arraysRefusal z A ≡ none =
+      let arrays : arrays_refusal z A ≡ none =
       sym (refused-alike z A (own-lengths P) (sizes-fit s bytes) (own-fit P figures))
-      ∙ ap (λ (r : List ℕ). unplaced (layoutRefusal r)) written-again
+      ∙ ap (λ (r : List ℕ). unplaced (layout_refusal r)) written-again
       ∙ ap unplaced read in
-      handed-on _ arrays ∙ long-enough 8 (sheetFrom z A) (ap length written-again) long
+      handed-on _ arrays ∙ long-enough 8 (sheet_from z A) (ap length written-again) long
     where
-      fits : (q : ℕ) → SFits w32 (table_of (sheetOf s) q)
+      fits : (q : ℕ) → SFits w32 (table_of (sheet_of s) q)
       fits = table_fits s bytes

@@ -9,8 +9,8 @@ use Rattle.proof_integer.specs.Vector.{length-tabulate, at-tabulate}
 use Rattle.proof_integer.specs.Tabulated.{at-past}
 use Rattle.rules.specs.Notation.{tabulate, at}
 use Rattle.rules.specs.Problem.{Problem}
-use Rattle.rules_arrays.specs.Arrays.{lengthsMatch}
-use Rattle.rules_arrays.specs.ReadBack.{SameFigures, arraysOf}
+use Rattle.rules_arrays.specs.Arrays.{lengths_match}
+use Rattle.rules_arrays.specs.ReadBack.{SameFigures, arrays_of}
 use Rattle.sheet_round_trip.specs.Fits.{FiguresFit}
 
 -- place n·i + j of n figures for each limit is figure j of limit i
@@ -32,19 +32,19 @@ tabulated-fits n f fits i = by (ltb i n) refl
     by false t = rw (at-past (tabulate n f) i (rw (length-tabulate n f) (ltb-false i n t))) (sfits_lit tt)
 
 module _ (P : Problem) where
-  pub own-figures : SameFigures P (arraysOf P)
-  unfolding arraysOf
+  pub own-figures : SameFigures P (arrays_of P)
+  unfolding arrays_of
   own-figures = record {
     cost = λ j l. sym (at-tabulate P.materials P.cost j l);
     least = λ j l. sym (at-tabulate P.materials P.least j l);
     most = λ j l. sym (at-tabulate P.materials P.most j l);
     coefficient = λ i j h l. own-coefficient P.materials P.limits P.coefficient i j h l;
     rhs = λ i h. sym (at-tabulate P.limits P.rhs i h);
-    startingMultiplier = λ i h. sym (at-tabulate P.limits P.startingMultiplier i h);
+    starting_multiplier = λ i h. sym (at-tabulate P.limits P.starting_multiplier i h);
   }
 
-  pub own-lengths : lengthsMatch (record { materials = P.materials; limits = P.limits }) (arraysOf P) ≡ true
-  unfolding arraysOf lengthsMatch
+  pub own-lengths : lengths_match (record { materials = P.materials; limits = P.limits }) (arrays_of P) ≡ true
+  unfolding arrays_of lengths_match
   own-lengths = simp (length-tabulate, eq-eqb)
 
 -- ---- figures of 32 bits
@@ -54,16 +54,16 @@ pub record ProblemFits (P : Problem) : Type 0 where
   pub most : (j : ℕ) → SFits w32 (P.most j)
   pub coefficient : (i j : ℕ) → SFits w32 (P.coefficient i j)
   pub rhs : (i : ℕ) → SFits w32 (P.rhs i)
-  pub startingMultiplier : (i : ℕ) → SFits w32 (P.startingMultiplier i)
+  pub starting_multiplier : (i : ℕ) → SFits w32 (P.starting_multiplier i)
 
-pub own-fit : (P : Problem) → ProblemFits P → FiguresFit (arraysOf P)
-unfolding arraysOf
+pub own-fit : (P : Problem) → ProblemFits P → FiguresFit (arrays_of P)
+unfolding arrays_of
 own-fit P f = record {
   costs = tabulated-fits P.materials P.cost f.cost;
-  leastAmounts = tabulated-fits P.materials P.least f.least;
-  mostAmounts = tabulated-fits P.materials P.most f.most;
+  least_amounts = tabulated-fits P.materials P.least f.least;
+  most_amounts = tabulated-fits P.materials P.most f.most;
   coefficients =
       tabulated-fits (P.materials * P.limits) _ (λ x. f.coefficient (x / P.materials) (x % P.materials));
-  rightHandSides = tabulated-fits P.limits P.rhs f.rhs;
-  starts = tabulated-fits P.limits P.startingMultiplier f.startingMultiplier;
+  right_hand_sides = tabulated-fits P.limits P.rhs f.rhs;
+  starts = tabulated-fits P.limits P.starting_multiplier f.starting_multiplier;
 }

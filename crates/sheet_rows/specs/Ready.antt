@@ -5,7 +5,7 @@ use Rattle.rules.specs.declared.Shape.{Shape}
 use Rattle.rules_arrays.specs.Arrays.{Arrays}
 use Rattle.sheet_arrays.specs.Lengths.{LengthsMatch}
 use Rattle.sheet_arrays.specs.Runs.{run}
-use Rattle.sheet_arrays.specs.Listed.{materialEntries, limitEntries, limitsEntries, entriesOf}
+use Rattle.sheet_arrays.specs.Listed.{material_entries, limit_entries, limits_entries, entries_of}
 use Rattle.sheet_put.specs.Put.{EntriesRoom}
 
 -- n figures of an array from a place on
@@ -16,7 +16,7 @@ pub record RunReady (e c first : ℕ) (figures : List ℤ) (from n : ℕ) (d : L
 
 -- those of limit i
 pub record LimitReady (e c n : ℕ) (a b s : List ℤ) (i : ℕ) (d : List ℕ) : Type 0 where
-  pub room : EntriesRoom e c (length (limitEntries n a b s i)) d
+  pub room : EntriesRoom e c (length (limit_entries n a b s i)) d
   pub narrow : n ≤ 32
   pub few : i < 16
   pub coefficients : n * i + n ≤ length a
@@ -25,7 +25,7 @@ pub record LimitReady (e c n : ℕ) (a b s : List ℤ) (i : ℕ) (d : List ℕ) 
 
 -- those of m limits
 pub record LimitsReady (e c n m : ℕ) (a b s : List ℤ) (d : List ℕ) : Type 0 where
-  pub room : EntriesRoom e c (length (limitsEntries n a b s m)) d
+  pub room : EntriesRoom e c (length (limits_entries n a b s m)) d
   pub narrow : n ≤ 32
   pub few : m ≤ 16
   pub coefficients : n * m ≤ length a
@@ -34,7 +34,7 @@ pub record LimitsReady (e c n m : ℕ) (a b s : List ℤ) (d : List ℕ) : Type 
 
 -- those of n materials
 pub record MaterialsReady (e c n : ℕ) (costs leasts mosts : List ℤ) (d : List ℕ) : Type 0 where
-  pub room : EntriesRoom e c (length (materialEntries n costs leasts mosts)) d
+  pub room : EntriesRoom e c (length (material_entries n costs leasts mosts)) d
   pub narrow : n ≤ 32
   pub cost : n ≤ length costs
   pub least : n ≤ length leasts
@@ -42,7 +42,7 @@ pub record MaterialsReady (e c n : ℕ) (costs leasts mosts : List ℤ) (d : Lis
 
 -- all of them
 pub record EntriesReady (e : ℕ) (shape : Shape) (A : Arrays) (d : List ℕ) : Type 0 where
-  pub room : EntriesRoom e 0 (length (entriesOf shape A)) d
+  pub room : EntriesRoom e 0 (length (entries_of shape A)) d
   pub narrow : shape.materials ≤ 32
   pub few : shape.limits ≤ 16
   pub lengths : LengthsMatch shape A

@@ -3,9 +3,9 @@
 ghost use Rattle.std.specs.Prelude.{◌+◌, ◌≡◌};
 ghost use Rattle.rules.specs.Notation.{at};
 ghost use Rattle.sheet_arrays.specs.Runs.{run};
-ghost use Rattle.sheet_arrays.specs.Listed.{materialEntries, limitEntries, limitsEntries, entriesOf};
+ghost use Rattle.sheet_arrays.specs.Listed.{material_entries, limit_entries, limits_entries, entries_of};
 ghost use Rattle.rules_arrays.specs.Arrays.{arrays};
-ghost use Rattle.sheet_put.specs.Put.{Put, putEntries};
+ghost use Rattle.sheet_put.specs.Put.{Put, put_entries};
 ghost use Rattle.sheet_rows.specs.Ready.{RunReady, LimitReady, LimitsReady, MaterialsReady, EntriesReady};
 
 use rules::Shape;
@@ -46,7 +46,7 @@ fn put_limit(
     start: &[i32],
 ) -> usize
     requires { LimitReady e count n a.now b.now start.now i sheet.old }
-    ensures { Put e count (limitEntries n a.now b.now start.now i)
+    ensures { Put e count (limit_entries n a.now b.now start.now i)
         sheet.old sheet.new result }
 {
     let first = (3 + i) * 64;
@@ -67,7 +67,7 @@ fn put_limits(
     start: &[i32],
 ) -> usize
     requires { LimitsReady e count n m a.now b.now start.now sheet.old }
-    ensures { Put e count (limitsEntries n a.now b.now start.now m)
+    ensures { Put e count (limits_entries n a.now b.now start.now m)
         sheet.old sheet.new result }
 {
     let mut entries = count;
@@ -89,7 +89,7 @@ fn put_materials(
     most: &[i32],
 ) -> usize
     requires { MaterialsReady e 0 n cost.now least.now most.now sheet.old }
-    ensures { Put e 0 (materialEntries n cost.now least.now most.now)
+    ensures { Put e 0 (material_entries n cost.now least.now most.now)
         sheet.old sheet.new result }
 {
     let costs = put_run(sheet, e, 0, 0, cost, 0, n);
@@ -111,7 +111,7 @@ pub fn put_entries(
 )
     requires { EntriesReady e shape (arrays cost.now least.now most.now a.now b.now start.now)
         sheet.old }
-    ensures { sheet.new ≡ putEntries e 0 (entriesOf shape (arrays cost.now
+    ensures { sheet.new ≡ put_entries e 0 (entries_of shape (arrays cost.now
         least.now most.now a.now b.now start.now))
         sheet.old }
 {

@@ -1,6 +1,6 @@
 // The ranges of the sizes: n, m and e, and p, D and k. Whoever reads, writes or edits a sheet consults these.
 ghost use Rattle.std.specs.Prelude.{◌≡◌};
-ghost use Rattle.rules.specs.Ranges.{between, dimensionsInRange, parametersInRange};
+ghost use Rattle.rules.specs.Ranges.{between, dimensions_in_range, parameters_in_range};
 
 use rules::{Shape, Sizes};
 
@@ -13,7 +13,7 @@ fn between(least: usize, greatest: usize, size: usize) -> bool
 
 // Whether n, m and e lie in their ranges. The product is formed where n and m do.
 pub fn dimensions_in_range(shape: Shape, e: usize) -> bool
-    ensures { result ≡ dimensionsInRange shape e }
+    ensures { result ≡ dimensions_in_range shape e }
 {
     let n = shape.materials;
     let m = shape.limits;
@@ -25,7 +25,7 @@ pub fn dimensions_in_range(shape: Shape, e: usize) -> bool
 
 // Whether p, D and k lie in their ranges.
 pub fn parameters_in_range(sizes: Sizes) -> bool
-    ensures { result ≡ parametersInRange sizes }
+    ensures { result ≡ parameters_in_range sizes }
 {
     let p = sizes.numerator;
     let d = sizes.scale;

@@ -4,10 +4,10 @@ use Rattle.std.proofs.Common.{sym, ◌∙◌, add-one}
 use borrow.Author.Tests.{eq-eqb, ne_eqb}
 use Rattle.rules.specs.declared.Verdict.{Verdict}
 use Rattle.rules.specs.declared.Verdict.TheVariants.{Passed, Refused}
-use Rattle.rules.specs.Sheet.{Sheet, row_of, columnOf, valueUnder}
+use Rattle.rules.specs.Sheet.{Sheet, row_of, column_of, value_under}
 use Rattle.proof_laws.specs.Entries.{parts-key}
 use Rattle.sheet_header.specs.declared.Header.{Header}
-use Rattle.sheet_table.specs.Tabled.{InTable, placeAt, tabled, tabled-set}
+use Rattle.sheet_table.specs.Tabled.{InTable, place_at, tabled, tabled-set}
 use Rattle.sheet_checks.specs.Keys.{Keyed}
 
 -- the keys are good, and nothing is stored yet
@@ -16,25 +16,25 @@ pub record ReadyToStore (s : List ℕ) (h : Header) (table : List ℤ) : Type 0 
   pub empty : table ≡ tabled (λ _. pos 0)
 
 -- how many entries are stored: those before the refused one, or all e
-unfoldable pub storedBy : Verdict → ℕ → ℕ
-storedBy Passed e = e
-storedBy (Refused r) e = r.place
+unfoldable pub stored_by : Verdict → ℕ → ℕ
+stored_by Passed e = e
+stored_by (Refused r) e = r.place
 
 -- ---- one entry more
 module _ (S : Sheet) (i : ℕ) where
-  this_key : S.value i ≡ valueUnder S (i + 1) (S.key i)
-  unfolding valueUnder
+  this_key : S.value i ≡ value_under S (i + 1) (S.key i)
+  unfolding value_under
   this_key = rw (add-one, eq-eqb (S.key i) (S.key i) refl)
 
-  other_key : (key : ℕ) → (key ≡ S.key i → ⊥) → valueUnder S i key ≡ valueUnder S (i + 1) key
-  unfolding valueUnder
+  other_key : (key : ℕ) → (key ≡ S.key i → ⊥) → value_under S i key ≡ value_under S (i + 1) key
+  unfolding value_under
   other_key key o = rw (add-one, ne_eqb (S.key i) key (λ e. o (sym e)))
 
   -- storing entry i gives the table after it
-  pub entry-stored : InTable (row_of (S.key i)) (columnOf (S.key i))
-      → set (tabled (valueUnder S i)) (placeAt (row_of (S.key i)) (columnOf (S.key i))) (S.value i)
-      ≡ tabled (valueUnder S (i + 1))
+  pub entry-stored : InTable (row_of (S.key i)) (column_of (S.key i))
+      → set (tabled (value_under S i)) (place_at (row_of (S.key i)) (column_of (S.key i))) (S.value i)
+      ≡ tabled (value_under S (i + 1))
   entry-stored h =
       let whole = parts-key (S.key i) in
-      tabled-set h (valueUnder S i) (valueUnder S (i + 1)) (rw whole this_key)
+      tabled-set h (value_under S i) (value_under S (i + 1)) (rw whole this_key)
       (λ key o. other_key key (λ e. o (e ∙ sym whole)))

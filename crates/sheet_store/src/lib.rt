@@ -1,9 +1,9 @@
 // The pass that stores the entries of a sheet whose keys are good. Refusal 6.
 ghost use Rattle.std.specs.Prelude.{◌≡◌};
-ghost use Rattle.rules.specs.Sheet.{sheetOf, valueUnder};
-ghost use Rattle.rules.specs.Refusals.{refusalOf, valueRefusal};
+ghost use Rattle.rules.specs.Sheet.{sheet_of, value_under};
+ghost use Rattle.rules.specs.Refusals.{refusal_of, value_refusal};
 ghost use Rattle.sheet_table.specs.Tabled.{tabled};
-ghost use Rattle.sheet_store.specs.Values.{ReadyToStore, storedBy};
+ghost use Rattle.sheet_store.specs.Values.{ReadyToStore, stored_by};
 
 use bytes_read::{signed_32, size_at};
 use rules::{Cause, Verdict};
@@ -15,9 +15,9 @@ use sheet_table::place_at;
 // No key is bad here, so that it is the value where an entry is.
 pub fn store_entries(s: &[u8], header: Header, table: &mut [i32; 646]) -> Verdict
     requires { ReadyToStore s.now header table.old }
-    ensures result_value { refusalOf result ≡ valueRefusal (sheetOf s.now) }
+    ensures result_value { refusal_of result ≡ value_refusal (sheet_of s.now) }
     ensures table_after { table.new
-        ≡ tabled (valueUnder (sheetOf s.now) (storedBy result header.entries)) }
+        ≡ tabled (value_under (sheet_of s.now) (stored_by result header.entries)) }
 {
     let sizes = header.sizes;
     let shape = sizes.shape;

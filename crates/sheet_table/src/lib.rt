@@ -1,11 +1,11 @@
 // The table of a sheet's figures by key, in one array of 19 rows of 34 columns.
 ghost use Rattle.std.specs.Prelude.{◌≡◌};
-ghost use Rattle.sheet_table.specs.Tabled.{InTable, placeAt};
+ghost use Rattle.sheet_table.specs.Tabled.{InTable, place_at};
 
 // Where the figure at a row and a column stands.
 pub fn place_at(row: usize, column: usize) -> usize
     requires { InTable row column }
-    ensures { result ≡ placeAt row column }
+    ensures { result ≡ place_at row column }
 {
     34 * row + column
 }

@@ -1,10 +1,10 @@
 // From the table of a sheet's figures by key to the arrays of the run: each figure at its place, in its width.
 ghost use Rattle.std.specs.Prelude.{◌≡◌, ◌+◌};
-ghost use Rattle.rules.specs.Sheet.{key_of, problemFrom};
+ghost use Rattle.rules.specs.Sheet.{key_of, problem_from};
 ghost use Rattle.proof_magnitudes.specs.Accepted.{Accepted};
-ghost use Rattle.sheet_table.specs.Tabled.{tableIn};
-ghost use Rattle.sheet_figures.specs.Put.{put, putRows};
-ghost use Rattle.sheet_figures.specs.Figures.{figuresOf, coefficientsOver};
+ghost use Rattle.sheet_table.specs.Tabled.{table_in};
+ghost use Rattle.sheet_figures.specs.Put.{put, put_rows};
+ghost use Rattle.sheet_figures.specs.Figures.{figures_of, coefficients_over};
 ghost use Rattle.sheet_unpack.specs.Unpacked.{RowFits, RowsFit, ColumnFits};
 
 use rules::Sizes;
@@ -14,7 +14,7 @@ use sheet_table::place_at;
 // The first n figures of a row, into an array from a place on, in 16 bits.
 fn take_row(table: &[i32; 646], row: usize, n: usize, to: &mut [i16], at: usize)
     requires { RowFits table.now row n to.old at }
-    ensures { to.new ≡ put to.old at n (λ j. tableIn table.now (key_of row j)) }
+    ensures { to.new ≡ put to.old at n (λ j. table_in table.now (key_of row j)) }
 {
     let from = place_at(row, 0);
     let mut j: usize = 0;
@@ -28,7 +28,7 @@ fn take_row(table: &[i32; 646], row: usize, n: usize, to: &mut [i16], at: usize)
 fn take_rows(table: &[i32; 646], n: usize, m: usize, to: &mut [i16; 512])
     requires { RowsFit table.now n m }
     ensures { to.new
-        ≡ putRows to.old m n (λ i j. tableIn table.now (key_of (3 + i) j)) }
+        ≡ put_rows to.old m n (λ i j. table_in table.now (key_of (3 + i) j)) }
 {
     let mut i: usize = 0;
     while i < m {
@@ -41,7 +41,7 @@ fn take_rows(table: &[i32; 646], n: usize, m: usize, to: &mut [i16; 512])
 fn take_column(table: &[i32; 646], column: usize, m: usize, to: &mut [i32; 16])
     requires { ColumnFits column m }
     ensures { to.new
-        ≡ put to.old 0 m (λ i. tableIn table.now (key_of (3 + i) column)) }
+        ≡ put to.old 0 m (λ i. table_in table.now (key_of (3 + i) column)) }
 {
     let mut i: usize = 0;
     while i < m {
@@ -53,10 +53,10 @@ fn take_column(table: &[i32; 646], column: usize, m: usize, to: &mut [i32; 16])
 
 // The figures of a table, and its coefficients in a lent array, where the places past n and m stay as lent.
 pub fn unpack(sizes: Sizes, table: &[i32; 646], coefficient: &mut [i16; 512]) -> Figures
-    requires { Accepted (problemFrom sizes (tableIn table.now)) sizes.steps }
-    ensures value { result ≡ figuresOf (problemFrom sizes (tableIn table.now)) sizes.steps }
+    requires { Accepted (problem_from sizes (table_in table.now)) sizes.steps }
+    ensures value { result ≡ figures_of (problem_from sizes (table_in table.now)) sizes.steps }
     ensures coefficient_after { coefficient.new
-        ≡ coefficientsOver coefficient.old (problemFrom sizes (tableIn table.now)) }
+        ≡ coefficients_over coefficient.old (problem_from sizes (table_in table.now)) }
 {
     let shape = sizes.shape;
     let n = shape.materials;

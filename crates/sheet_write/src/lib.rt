@@ -1,8 +1,8 @@
 // A sheet from figures in plain arrays into a lent buffer (TASK.md, T13).
 ghost use Rattle.std.specs.Prelude.{◌≡◌, length};
 ghost use Rattle.rules.specs.Output.{Writes};
-ghost use Rattle.rules_arrays.specs.Arrays.{sheetFrom, writeRefusal, arrays};
-ghost use Rattle.rules_arrays.specs.ReadBack.{figuresPresent};
+ghost use Rattle.rules_arrays.specs.Arrays.{sheet_from, write_refusal, arrays};
+ghost use Rattle.rules_arrays.specs.ReadBack.{figures_present};
 ghost use Rattle.bytes_write.specs.Written.{written};
 ghost use Rattle.sheet_write.specs.Ready.{Short, SheetReady};
 
@@ -21,7 +21,7 @@ fn count_entries(
     start: &[i32],
 ) -> usize
     requires { Short (arrays cost.now least.now most.now a.now b.now start.now) }
-    ensures { result ≡ figuresPresent (arrays cost.now least.now most.now
+    ensures { result ≡ figures_present (arrays cost.now least.now most.now
         a.now b.now start.now) }
 {
     let materials = present_in(cost) + present_in(least) + present_in(most);
@@ -42,7 +42,7 @@ fn put_sheet(
 )
     requires { SheetReady e sizes (arrays cost.now least.now most.now a.now b.now start.now)
         sheet.old }
-    ensures { sheet.new ≡ written (sheetFrom sizes (arrays cost.now least.now
+    ensures { sheet.new ≡ written (sheet_from sizes (arrays cost.now least.now
         most.now a.now b.now start.now)) sheet.old }
 {
     let shape = sizes.shape;
@@ -63,9 +63,9 @@ pub fn write_sheet(
     sheet: &mut [u8],
 ) -> Output
     ensures { Writes
-        (sheetFrom sizes (arrays cost.now least.now most.now a.now
+        (sheet_from sizes (arrays cost.now least.now most.now a.now
         b.now start.now))
-        (writeRefusal sizes (arrays cost.now least.now most.now a.now
+        (write_refusal sizes (arrays cost.now least.now most.now a.now
         b.now start.now) (length sheet.old))
         sheet.old sheet.new result }
 {

@@ -5,7 +5,7 @@ use Rattle.std.specs.Float.Ieee.Fits.{and_r}
 use Rattle.std.proofs.Math.Facts.{leb_yes}
 use Rattle.rules.specs.declared.Shape.{Shape}
 use Rattle.rules.specs.Sheet.{Table}
-use Rattle.rules.specs.Ranges.{between, mostEntries, dimensionsInRange}
+use Rattle.rules.specs.Ranges.{between, most_entries, dimensions_in_range}
 use Rattle.rules.specs.Encoder.{keys_of}
 use Rattle.sheet_written.specs.Shaped.{Shaped, few-keys}
 
@@ -17,9 +17,9 @@ at_most least greatest x h =
     search (and_r, leb_yes)
 
 -- a number of entries that the shape allows lies in its range
-entries-in : (shape : Shape) (e : ℕ) → e ≤ mostEntries shape → between 0 (mostEntries shape) e ≡ true
+entries-in : (shape : Shape) (e : ℕ) → e ≤ most_entries shape → between 0 (most_entries shape) e ≡ true
 unfolding between
-entries-in shape e h = rw (le-leb 0 e zero-le, le-leb e (mostEntries shape) h)
+entries-in shape e h = rw (le-leb 0 e zero-le, le-leb e (most_entries shape) h)
 
 -- a last test counts only where those before it are passed
 last_of : (a b : Bool) {c d : Bool} → (a ≡ true → b ≡ true → c ≡ d) → a && b && c ≡ a && b && d
@@ -29,8 +29,8 @@ last_of false b h = refl
 
 -- so n and m decide
 pub dimensions-decide : (shape : Shape) (T : Table) → Shaped shape T
-    → dimensionsInRange shape (length (keys_of T)) ≡ dimensionsInRange shape 0
-unfolding dimensionsInRange
+    → dimensions_in_range shape (length (keys_of T)) ≡ dimensions_in_range shape 0
+unfolding dimensions_in_range
 dimensions-decide shape T shaped =
     let n = shape.materials in
     let m = shape.limits in

@@ -3,8 +3,8 @@ use Rattle.std.specs.Prelude.{◌≡◌, false, List, [], ◌∷◌, ◌++◌, �
 use Rattle.std.proofs.Common.{sym, ap, ◌∙◌, inl, inr, eq-or-lt_of_le, le_of_suc-le-suc, not-suc-le-zero, arith, length-append}
 use Rattle.std.proofs.Math.ListN.{get_or-append}
 use Rattle.std.proofs.Math.Seq.{get_or-append_seam}
-use Rattle.rules.specs.Sheet.{Sheet, Table, valueUnder}
-use Rattle.rules.specs.Encoder.{allKeys, keys_of}
+use Rattle.rules.specs.Sheet.{Sheet, Table, value_under}
+use Rattle.rules.specs.Encoder.{all_keys, keys_of}
 use Rattle.sheet_written.specs.Picked.{picked-induction, picked-passes}
 use Rattle.sheet_written.specs.Under.{under-here, under-before, under_none}
 use Rattle.sheet_written.specs.Support.{present, present-not, support}
@@ -17,7 +17,7 @@ pub record Listed (S : Sheet) (T : Table) (xs : List ℕ) : Type 0 where
 module _ (S : Sheet) (T : Table) where
   -- what stands under each key below n is T's figure
   abbrev Gives : ℕ → List ℕ → Type 0
-  Gives n xs = (q : ℕ) → q < n → valueUnder S (length xs) q ≡ T q
+  Gives n xs = (q : ℕ) → q < n → value_under S (length xs) q ≡ T q
 
   -- entries without the last
   but_last : (xs : List ℕ) (x : ℕ) → Listed S T (xs ++ (x ∷ [])) → Listed S T xs
@@ -60,6 +60,6 @@ module _ (S : Sheet) (T : Table) where
       none_more
 
   -- and the keys of a table do
-  pub under-keys : Listed S T (keys_of T) → (q : ℕ) → q < allKeys → valueUnder S (length (keys_of T)) q ≡ T q
+  pub under-keys : Listed S T (keys_of T) → (q : ℕ) → q < all_keys → value_under S (length (keys_of T)) q ≡ T q
   unfolding keys_of
-  under-keys = under-support allKeys
+  under-keys = under-support all_keys

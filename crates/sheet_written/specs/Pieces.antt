@@ -10,7 +10,7 @@ use Rattle.std.proofs.Math.Seq.{drop-cons}
 use Rattle.std.specs.Int.{w8}
 use Rattle.bytes_read.specs.Width.{signed_lower, signed-upper, unsigned-below}
 use Rattle.rules.specs.Notation.{tabulate}
-use Rattle.rules.specs.Bytes.{unsignedAt, signedAt, signed_of, unsignedBytes, signedBytes, laid}
+use Rattle.rules.specs.Bytes.{unsigned_at, signed_at, signed_of, unsigned_bytes, signed_bytes, laid}
 use Rattle.sheet_written.specs.Lists.{tabulate-more}
 use Rattle.sheet_written.specs.Laid.{laid_more}
 
@@ -39,29 +39,29 @@ laid-piece bytes w a s f (suc n) h =
     )
 
 -- a number below 256^w has the same w bytes, signed and unsigned
-signed-unsigned : (w v : ℕ) → v < 256 ^ w → signedBytes w (signed_of w v) ≡ unsignedBytes w v
-unfolding signedBytes
+signed-unsigned : (w v : ℕ) → v < 256 ^ w → signed_bytes w (signed_of w v) ≡ unsigned_bytes w v
+unfolding signed_bytes
 signed-unsigned w v h = by (ltb v (256 ^ w / 2)) refl
   where
-    by : (b : Bool) → ltb v (256 ^ w / 2) ≡ b → signedBytes w (signed_of w v) ≡ unsignedBytes w v
+    by : (b : Bool) → ltb v (256 ^ w / 2) ≡ b → signed_bytes w (signed_of w v) ≡ unsigned_bytes w v
     by true t = rw (signed_lower w v (ltb-true v (256 ^ w / 2) t))
     by false t =
         rw (signed-upper w v (ltb-false v (256 ^ w / 2) t) h)
-        (ap (unsignedBytes w) (omega arith))
+        (ap (unsigned_bytes w) (omega arith))
 
 -- ---- of bytes below 256
 module _ (s : List ℕ) (bytes : (i : ℕ) → Fits w8 (get_or s i 0)) where
   -- the bytes of an unsigned number that is read
-  pub unsigned-piece : (w o : ℕ) → o + w ≤ length s → unsignedBytes w (unsignedAt w s o) ≡ piece w o s
-  unfolding unsignedAt unsignedBytes
+  pub unsigned-piece : (w o : ℕ) → o + w ≤ length s → unsigned_bytes w (unsigned_at w s o) ≡ piece w o s
+  unfolding unsigned_at unsigned_bytes
   unsigned-piece zero o l = refl
   unsigned-piece (suc w) o l =
       let byte : get_or s o 0 < 256 = omega (arith, bytes o) in
-      let low : (get_or s o 0 + 256 * unsignedAt w s (o + 1)) % 256 ≡ get_or s o 0 = omega arith in
-      let high : (get_or s o 0 + 256 * unsignedAt w s (o + 1)) / 256 ≡ unsignedAt w s (o + 1) = omega arith in
+      let low : (get_or s o 0 + 256 * unsigned_at w s (o + 1)) % 256 ≡ get_or s o 0 = omega arith in
+      let high : (get_or s o 0 + 256 * unsigned_at w s (o + 1)) / 256 ≡ unsigned_at w s (o + 1) = omega arith in
       rw (low, high, unsigned-piece w (o + 1) (omega arith), drop-cons s o 0 (omega arith), add-one)
 
   -- and of a signed one
-  pub signed-piece : (w o : ℕ) → o + w ≤ length s → signedBytes w (signedAt w s o) ≡ piece w o s
-  unfolding signedAt
-  signed-piece w o l = signed-unsigned w (unsignedAt w s o) (unsigned-below s bytes w o) ∙ unsigned-piece w o l
+  pub signed-piece : (w o : ℕ) → o + w ≤ length s → signed_bytes w (signed_at w s o) ≡ piece w o s
+  unfolding signed_at
+  signed-piece w o l = signed-unsigned w (unsigned_at w s o) (unsigned-below s bytes w o) ∙ unsigned-piece w o l

@@ -8,16 +8,16 @@ use native.Mathlib.Omega.{arith}
 use Rattle.std.proofs.Math.ListN.{length}
 use Rattle.proof_laws.specs.Entries.{key-parts, parts-key, past-materials, past-starts, past-limits}
 use Rattle.rules.specs.declared.Shape.{Shape}
-use Rattle.rules.specs.Sheet.{Table, key_of, row_of, columnOf}
-use Rattle.rules.specs.Ranges.{mostEntries}
-use Rattle.rules.specs.Encoder.{picked, allKeys, keys_of}
-use Rattle.rules.specs.Refusals.{noFigureAt}
+use Rattle.rules.specs.Sheet.{Table, key_of, row_of, column_of}
+use Rattle.rules.specs.Ranges.{most_entries}
+use Rattle.rules.specs.Encoder.{picked, all_keys, keys_of}
+use Rattle.rules.specs.Refusals.{no_figure_at}
 use Rattle.sheet_written.specs.Picked.{picked-skip, picked-adds}
 use Rattle.sheet_written.specs.Support.{present, absent-zero}
 
 -- a table is 0 where its shape has no figure
 unfoldable pub Shaped : Shape → Table → Type 0
-Shaped shape T = (q : ℕ) → q < allKeys → noFigureAt shape (row_of q) (columnOf q) ≡ true → T q ≡ pos 0
+Shaped shape T = (q : ℕ) → q < all_keys → no_figure_at shape (row_of q) (column_of q) ≡ true → T q ≡ pos 0
 
 -- ---- counting row by row
 -- a row of which only the first w places pass a test adds at most w
@@ -53,26 +53,26 @@ module _ (test : ℕ → Bool) (n w m : ℕ) (narrow : n ≤ 64) (wide : w ≤ 6
 module _ (shape : Shape) (T : Table) (narrow : shape.materials ≤ 32) (few : shape.limits ≤ 16)
     (shaped : Shaped shape T) where
   -- the figure there is 0
-  gap : (row c : ℕ) → row < 19 → c < 64 → noFigureAt shape row c ≡ true → present (T (key_of row c)) ≡ false
+  gap : (row c : ℕ) → row < 19 → c < 64 → no_figure_at shape row c ≡ true → present (T (key_of row c)) ≡ false
   unfolding Shaped
   gap row c l k h =
       let (row_back, column-back) = key-parts row c k in
       ap present (shaped (key_of row c) (omega arith) (rw (row_back, column-back) h)) ∙ absent-zero
 
   -- so a table has at most n(m+3)+2m keys with a figure
-  pub few-keys : length (keys_of T) ≤ mostEntries shape
+  pub few-keys : length (keys_of T) ≤ most_entries shape
   unfolding keys_of
   few-keys =
       let n = shape.materials in
       let m = shape.limits in
       let test : ℕ → Bool = λ q. present (T q) in
-      let past : (q : ℕ) → (3 + m) * 64 ≤ q → q < allKeys → test q ≡ false =
+      let past : (q : ℕ) → (3 + m) * 64 ≤ q → q < all_keys → test q ≡ false =
       λ q a b.
-      let none = past-limits shape (row_of q) (columnOf q) (omega arith) in
-      rw (parts-key q) at (gap (row_of q) (columnOf q) (omega arith) (omega arith) none) in
+      let none = past-limits shape (row_of q) (column_of q) (omega arith) in
+      rw (parts-key q) at (gap (row_of q) (column_of q) (omega arith) (omega arith) none) in
       let most : length (picked ((3 + m) * 64) test) ≤ n * 3 + (n + 2) * m =
       rows-high test n (n + 2) m (omega arith) (omega arith)
       (λ row c l a b. gap row c (omega arith) b (past-materials shape row c (le_of_suc-le-suc l) a))
       (λ i c l a b. gap (3 + i) c (omega arith) b (past-starts shape (3 + i) c (omega arith)))
       m (le_refl m) in
-      rw (picked-skip ((3 + m) * 64) allKeys test (omega arith) past) (omega arith)
+      rw (picked-skip ((3 + m) * 64) all_keys test (omega arith) past) (omega arith)

@@ -6,7 +6,7 @@ use Rattle.std.proofs.Math.Bool.{true, false}
 use Rattle.std.proofs.Math.Logic.{inl, inr}
 use Prim.Native.Nat.{ℕ, zero, suc, ◌<◌}
 use Rattle.std.proofs.Math.Nat.{le_step}
-use Rattle.rules.specs.Sheet.{Sheet, valueUnder}
+use Rattle.rules.specs.Sheet.{Sheet, value_under}
 
 -- the first e keys rise
 unfoldable pub RisingKeys : (ℕ → ℕ) → ℕ → Type 0
@@ -27,35 +27,35 @@ earlier-below key e rising i (suc j) l m = elim (eq-or-lt_of_le (le_of_suc-le-su
 module _ (S : Sheet) where
   -- ---- one entry more
   -- it has the key
-  pub under-here : (e q : ℕ) → S.key e ≡ q → valueUnder S (suc e) q ≡ S.value e
-  unfolding valueUnder
+  pub under-here : (e q : ℕ) → S.key e ≡ q → value_under S (suc e) q ≡ S.value e
+  unfolding value_under
   under-here e q h = rw (eq-eqb (S.key e) q h)
 
   -- it has another key
-  pub under-before : (e q : ℕ) → (S.key e ≡ q → ⊥) → valueUnder S (suc e) q ≡ valueUnder S e q
-  unfolding valueUnder
+  pub under-before : (e q : ℕ) → (S.key e ≡ q → ⊥) → value_under S (suc e) q ≡ value_under S e q
+  unfolding value_under
   under-before e q h = rw (ne_eqb (S.key e) q h)
 
   -- ---- e entries
   -- none has the key
-  pub under_none : (e q : ℕ) → ((i : ℕ) → i < e → S.key i ≡ q → ⊥) → valueUnder S e q ≡ pos 0
-  unfolding valueUnder
+  pub under_none : (e q : ℕ) → ((i : ℕ) → i < e → S.key i ≡ q → ⊥) → value_under S e q ≡ pos 0
+  unfolding value_under
   under_none zero q h = refl
   under_none (suc e) q h = under-before e q (h e (lt-suc_self e)) ∙ under_none e q (λ i l. h i (le_step l))
 
   -- what holds of 0 and of each value holds of what stands under any key
   pub under_all : (Q : ℤ → Type 0) → Q (pos 0) → (e : ℕ) → ((i : ℕ) → i < e → Q (S.value i))
-      → (q : ℕ) → Q (valueUnder S e q)
-  unfolding valueUnder
+      → (q : ℕ) → Q (value_under S e q)
+  unfolding value_under
   under_all Q absent zero h q = absent
   under_all Q absent (suc e) h q = by (eqb (S.key e) q) (under_all Q absent e (λ i l. h i (le_step l)) q)
     where
-      by : (b : Bool) → Q (valueUnder S e q) → Q (cond b (S.value e) (valueUnder S e q))
+      by : (b : Bool) → Q (value_under S e q) → Q (cond b (S.value e) (value_under S e q))
       by true before = h e (lt-suc_self e)
       by false before = before
 
   -- where keys rise, each entry's value stands under its key
-  pub under-key : (e : ℕ) → RisingKeys S.key e → (i : ℕ) → i < e → valueUnder S e (S.key i) ≡ S.value i
+  pub under-key : (e : ℕ) → RisingKeys S.key e → (i : ℕ) → i < e → value_under S e (S.key i) ≡ S.value i
   unfolding RisingKeys
   under-key zero rising i l = absurd (not-suc-le-zero l)
   under-key (suc e) rising i l = elim (eq-or-lt_of_le (le_of_suc-le-suc l)) [

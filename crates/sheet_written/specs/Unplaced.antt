@@ -4,8 +4,8 @@ use Rattle.std.proofs.Math.Path.{refl}
 use Rattle.std.proofs.Common.{ap, ap₂, ◌∙◌}
 use Rattle.std.proofs.Math.Bool.{true, false}
 use Rattle.std.proofs.Math.Option.{Option, none, some, some-ne-none}
-use Rattle.rules.specs.Notation.{anyBelow}
-use Rattle.rules.specs.Refusals.{Numbered, refuse, ◌otherwise◌, firstBelow}
+use Rattle.rules.specs.Notation.{any_below}
+use Rattle.rules.specs.Refusals.{Numbered, refuse, ◌otherwise◌, first_below}
 use Rattle.rules_arrays.specs.ReadBack.{unplaced}
 
 -- where there is none with the place 0 for 6, there is none
@@ -30,8 +30,8 @@ unplaced-other number place false h = refl
 
 -- at the first place too
 pub unplaced-places : (n number : ℕ) (test : ℕ → Bool) → eqb number 6 ≡ false
-    → unplaced (firstBelow n (λ i. refuse number i (test i))) ≡ firstBelow n (λ i. refuse number i (test i))
-unfolding firstBelow unplaced
+    → unplaced (first_below n (λ i. refuse number i (test i))) ≡ first_below n (λ i. refuse number i (test i))
+unfolding first_below unplaced
 unplaced-places zero number test h = refl
 unplaced-places (suc n) number test h =
     unplaced-otherwise _ _
@@ -39,13 +39,13 @@ unplaced-places (suc n) number test h =
 
 -- of 6 it stays whether there is one
 pub unplaced-six : (n : ℕ) (test : ℕ → Bool)
-    → unplaced (firstBelow n (λ i. refuse 6 i (test i))) ≡ refuse 6 0 (anyBelow n test)
-unfolding firstBelow anyBelow unplaced
+    → unplaced (first_below n (λ i. refuse 6 i (test i))) ≡ refuse 6 0 (any_below n test)
+unfolding first_below any_below unplaced
 unplaced-six zero test = unfold refuse in refl
 unplaced-six (suc n) test =
     unplaced-otherwise _ _
     ∙ ap (λ (x : Option Numbered). x otherwise unplaced (refuse 6 n (test n))) (unplaced-six n test)
-    ∙ by (anyBelow n test) (test n)
+    ∙ by (any_below n test) (test n)
   where
     by : (a b : Bool) → refuse 6 0 a otherwise unplaced (refuse 6 n b) ≡ refuse 6 0 (a || b)
     by true b = unfold refuse ◌otherwise◌ in refl

@@ -1,12 +1,12 @@
 -- What is printed ends inside its room.
 use borrow.Author.Rules.{rules}
-use Rattle.rules_mps.specs.Mps.{longestMps}
+use Rattle.rules_mps.specs.Mps.{longest_mps}
 use Rattle.out_listing.specs.WholeText.{listed-within}
 use Rattle.batchmps.proofs.print_mps.Statement.{statement}
 use Rattle.batchmps.proofs.print_mps.Tie as tie
 
 write-printed-requires : tie.Need-write-printed-requires
-unfolding longestMps
+unfolding longest_mps
 write-printed-requires c κs = search rules
 
 print-text-requires : tie.Need-print-text-requires

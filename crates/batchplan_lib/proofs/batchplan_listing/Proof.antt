@@ -3,15 +3,15 @@ use Prim.Native.Nat.{◌≤◌}
 use mathlib.Core.Path.{◌≡◌, subst}
 use borrow.Author.Rules.{rules}
 use lib.ListN.{length}
-use Rattle.rules.specs.Record.{recordLength, longestRecord}
+use Rattle.rules.specs.Record.{record_length, longest_record}
 use Rattle.rules.specs.Answers.{outcome}
-use Rattle.rules.specs.Listing.{textFrom, listing, Listed}
+use Rattle.rules.specs.Listing.{text_from, listing, Listed}
 use Rattle.out_listing.specs.ListingOfRecord.{listing-is}
 use Rattle.batchplan_lib.proofs.batchplan_listing.Statement.{statement}
 use Rattle.batchplan_lib.proofs.batchplan_listing.Tie as tie
 
 returns : tie.Need-returns
-unfolding recordLength
+unfolding record_length
 returns c =
     let written = c.before.before in
     let at-answer = written.before.before.before in
@@ -20,8 +20,8 @@ returns c =
     let start = at-record.before.before.before in
     let lent = start.args.text.now in
     let wrote = written.write-listing in
-    let is : textFrom (outcome planned.plan.result) planned.plan.new.1.0
-    ≡ listing start.args.sheet.now longestRecord = listing-is planned.plan.ensures (search rules) in (
+    let is : text_from (outcome planned.plan.result) planned.plan.new.1.0
+    ≡ listing start.args.sheet.now longest_record = listing-is planned.plan.ensures (search rules) in (
       subst (λ t. Listed t lent wrote.new.1.1.0 wrote.result) is wrote.ensures.0,
       subst (λ t. length t ≤ 4096) is wrote.ensures.1,
     )

@@ -6,7 +6,7 @@ use mir.Val.{SFits}
 use mir.Facts.{to_z-of_z}
 use borrow.Author.Rules.{rules}
 use Rattle.rules.specs.Margins.{Margins}
-use Rattle.batchplan_lib.specs.Called.{numbersOf}
+use Rattle.batchplan_lib.specs.Called.{numbers_of}
 use Rattle.batchplan_lib.proofs.batchplan_plan.Statement.{statement}
 use Rattle.batchplan_lib.proofs.batchplan_plan.Tie as tie
 
@@ -21,7 +21,7 @@ returns c =
     let low : SFits w64 numbers.result.low = record { sfits = omega (arith, c.before.struct_told.given) } in
     let gap : SFits w64 numbers.result.gap = record { sfits = omega (arith, c.before.struct_told.given) } in
     record {
-      numbers = rw (to_z-of_z low, to_z-of_z gap) (numbers.ensures ∙ ap numbersOf promise.answered);
+      numbers = rw (to_z-of_z low, to_z-of_z gap) (numbers.ensures ∙ ap numbers_of promise.answered);
       buffer = promise.buffer;
       margins = subst (Margins start.args.sheet.now) promise.answered promise.margins;
     }

@@ -5,12 +5,12 @@ use mir.Facts.{to_z-of_z}
 use borrow.Author.Rules.{rules}
 use Rattle.rules.specs.Refusals.{numbered}
 use Rattle.rules.specs.Answers.{outcome}
-use Rattle.batchplan_lib.specs.Called.{numbersOf}
+use Rattle.batchplan_lib.specs.Called.{numbers_of}
 use Rattle.batchplan_lib.proofs.numbers_of.Statement.{statement}
 use Rattle.batchplan_lib.proofs.numbers_of.Tie as tie
 
 returns : tie.Need-returns
-unfolding numbersOf outcome
+unfolding numbers_of outcome
 returns c =
     let told = c.before.answer.given in
     let low : SFits w64 told.0.0 = search rules in
@@ -18,7 +18,7 @@ returns c =
     simp (to_z-of_z low, to_z-of_z gap, told.1)
 
 returns-2 : tie.Need-returns-2
-unfolding numbersOf outcome numbered
+unfolding numbers_of outcome numbered
 returns-2 c = rw (c.number_of_lem.ensures, c.before.before.answer2.given.1)
 
 pub numbers-of-spec : {M : Type 1} → statement M

@@ -1,13 +1,13 @@
--- `signedAt` is `signed_of` of `unsignedAt`, as the code is one call of another.
+-- `signed_at` is `signed_of` of `unsigned_at`, as the code is one call of another.
 use mathlib.Core.Path.{ap, ◌∙◌}
 use mir.Facts.{to_z-of_z}
 use borrow.Author.Rules.{rules}
-use Rattle.rules.specs.Bytes.{signed_of, signedAt}
+use Rattle.rules.specs.Bytes.{signed_of, signed_at}
 use Rattle.bytes_read.proofs.signed_at.Statement.{statement}
 use Rattle.bytes_read.proofs.signed_at.Tie as tie
 
 returns : tie.Need-returns
-unfolding signedAt
+unfolding signed_at
 returns c =
     let read = c.before.unsigned-at.ensures in
     to_z-of_z (search rules) ∙ c.Signed-of.ensures ∙ ap (signed_of c.before.before.before.args.width) read.is

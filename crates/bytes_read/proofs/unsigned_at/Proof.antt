@@ -7,7 +7,7 @@ use native.Mathlib.Nat.{pow-succ', pow-le-pow_right, sub_self, sub-zero, add-zer
 use native.Mathlib.Omega.{arith}
 use lib.ListN.{get_or}
 use borrow.Author.Rules.{rules}
-use Rattle.rules.specs.Bytes.{unsignedAt}
+use Rattle.rules.specs.Bytes.{unsigned_at}
 use Rattle.bytes_read.specs.Inside.{ReadUnsigned}
 use Rattle.bytes_read.proofs.unsigned_at.Statement.{statement}
 use Rattle.bytes_read.proofs.unsigned_at.Tie as tie
@@ -23,7 +23,7 @@ abbrev decreases-loop : tie.decreases-loop
 decreases-loop s at width value₀ left₀ value left = left
 
 loop-holds : tie.Need-loop-init invariant-loop decreases-loop
-unfolding unsignedAt
+unfolding unsigned_at
 loop-holds c = record { within = omega arith; number = record { is = rw sub_self; small = rw sub_self (omega arith) } }
 
 -- there is room for one byte more in 64 bits
@@ -54,7 +54,7 @@ add-value-2 c = record { fits = omega (arith, room c.before, byte c) }
 -- one byte more
 more : {s : List ℕ} {at width value left : ℕ} → Turn s at width value left → 0 < left → get_or s (at + (left - 1)) 0 < 256
     → Turn s at width (256 * value + get_or s (at + (left - 1)) 0) (left - 1)
-unfolding unsignedAt
+unfolding unsigned_at
 more {s} {at} {width} {value} {left} t some byte =
     let wider : width - (left - 1) ≡ suc (width - left) = omega arith in
     let next : at + (left - 1) + 1 ≡ at + left = omega arith in

@@ -9,15 +9,15 @@ use lib.Pow.{pow-add}
 use lib.Signed.{mag}
 use mir.Facts.{to_z-of_z}
 use borrow.Author.Rules.{rules}
-use Rattle.rules.specs.Bytes.{unsignedBytes, signedBytes}
-use Rattle.bytes_write.specs.Written.{writtenAt}
+use Rattle.rules.specs.Bytes.{unsigned_bytes, signed_bytes}
+use Rattle.bytes_write.specs.Written.{written_at}
 use Rattle.bytes_write.specs.Number.{bits64}
 use Rattle.bytes_write.proofs.put_signed.Statement.{statement}
 use Rattle.bytes_write.proofs.put_signed.Tie as tie
 
 -- what 256^w is added to v any number of times has the same w bytes
-rest : (w v k : ℕ) → unsignedBytes w (v + 256 ^ w * k) ≡ unsignedBytes w v
-unfolding unsignedBytes
+rest : (w v k : ℕ) → unsigned_bytes w (v + 256 ^ w * k) ≡ unsigned_bytes w v
+unfolding unsigned_bytes
 rest zero v k = refl
 rest (suc w) v k =
     let e : 256 ^ suc w * k ≡ 256 * (256 ^ w * k) = rw (pow-succ' 256 w) (mul_assoc 256 (256 ^ w) k) in
@@ -26,7 +26,7 @@ rest (suc w) v k =
     rw (e, low, high, rest w (v / 256) k)
 
 -- 256^(w + e) is 256^w, and 256^w some times more
-wider : (w e s : ℕ) → s ≤ 256 ^ w → unsignedBytes w (256 ^ (w + e) - s) ≡ unsignedBytes w (256 ^ w - s)
+wider : (w e s : ℕ) → s ≤ 256 ^ w → unsigned_bytes w (256 ^ (w + e) - s) ≡ unsigned_bytes w (256 ^ w - s)
 wider w e s h =
     let k = 256 ^ e - 1 in
     let positive : 1 ≤ 256 ^ e = one-le-pow e 256 (omega arith) in
@@ -36,8 +36,8 @@ wider w e s h =
     rw q (rest w (256 ^ w - s) k)
 
 -- the 64 bits of v give its bytes
-bytes : (w : ℕ) (v : ℤ) → w ≤ 8 → mag v < 256 ^ w → unsignedBytes w (bits64 v) ≡ signedBytes w v
-unfolding bits64 signedBytes
+bytes : (w : ℕ) (v : ℤ) → w ≤ 8 → mag v < 256 ^ w → unsigned_bytes w (bits64 v) ≡ signed_bytes w v
+unfolding bits64 signed_bytes
 bytes w (pos v) l h = refl
 bytes w (negsuc v) l h = let e : w + (8 - w) ≡ 8 = omega arith in rw e at (wider w (8 - w) (suc v) h)
 
@@ -50,7 +50,7 @@ returns c =
     let v : at_bits.bits.result ≡ bits64 args.v = simp (to_z-of_z start.ranges.v) at at_bits.bits.ensures in
     let b = bytes args.width args.v start.requires.narrow (omega (arith, start.requires.small)) in
     call.put-unsigned.ensures
-    ∙ ap (λ (s : List ℕ). writtenAt args.at s args.d.now) (ap (unsignedBytes args.width) v ∙ b)
+    ∙ ap (λ (s : List ℕ). written_at args.at s args.d.now) (ap (unsigned_bytes args.width) v ∙ b)
 
 pub put-signed-spec : {M : Type 1} → statement M
 put-signed-spec =

@@ -8,19 +8,19 @@ use native.Mathlib.Omega.{arith}
 use lib.ListN.{length, set, length-set, take-append-drop}
 use lib.Seq.{take-suc-set, drop-set-lt, drop-drop, append_snoc}
 use borrow.Author.Rules.{rules}
-use Rattle.rules.specs.Bytes.{unsignedBytes}
-use Rattle.bytes_write.specs.Written.{written, writtenAt, written_none}
+use Rattle.rules.specs.Bytes.{unsigned_bytes}
+use Rattle.bytes_write.specs.Written.{written, written_at, written_none}
 use Rattle.bytes_write.proofs.put_unsigned.Statement.{statement}
 use Rattle.bytes_write.proofs.put_unsigned.Tie as tie
 
 -- `rest`, in the bytes from i to w of those at place a
 abbrev finished : ℕ → ℕ → List ℕ → ℕ → ℕ → List ℕ
-finished a w d rest i = writtenAt (a + i) (unsignedBytes (w - i) rest) d
+finished a w d rest i = written_at (a + i) (unsigned_bytes (w - i) rest) d
 
 -- one byte more
 more : (a w : ℕ) (d : List ℕ) (rest i : ℕ) → a + i < length d → i < w
     → finished a w (set d (a + i) (rest % 256)) (rest / 256) (i + 1) ≡ finished a w d rest i
-unfolding unsignedBytes written writtenAt
+unfolding unsigned_bytes written written_at
 more a w d rest i h g =
     let e : w - i ≡ suc (w - suc i) = omega arith in
     let p : a + (i + 1) ≡ suc (a + i) = omega arith in
@@ -30,13 +30,13 @@ more a w d rest i h g =
 
 -- the last byte
 all : (a w : ℕ) (d : List ℕ) (rest i : ℕ) → i ≡ w → finished a w d rest i ≡ d
-unfolding unsignedBytes writtenAt
+unfolding unsigned_bytes written_at
 all a w d rest i e = rw e (rw (sub_self, ← written_none) (take-append-drop (a + w) d))
 
 record Turn (a w v : ℕ) (d₀ d : List ℕ) (rest i : ℕ) : Type 0 where
   within : i ≤ w
   long : length d ≡ length d₀
-  whole : finished a w d rest i ≡ writtenAt a (unsignedBytes w v) d₀
+  whole : finished a w d rest i ≡ written_at a (unsigned_bytes w v) d₀
 
 abbrev invariant-loop : tie.invariant-loop
 invariant-loop d₀ at width v rest₀ i₀ d rest i = Turn at width v d₀ d rest i

@@ -2,7 +2,7 @@
 use mathlib.Core.Path.{◌≡◌, sym, ap, ◌∙◌}
 use borrow.Author.Rules.{rules}
 use Rattle.rules.specs.Refusals.{Numbered, numbered}
-use Rattle.rules.specs.Listing.{text, refusalText}
+use Rattle.rules.specs.Listing.{text, refusal_text}
 use Rattle.out_text.specs.Growing.{puts-as, then}
 use Rattle.out_lines.specs.Lines.{refusal-line}
 use Rattle.out_lines.specs.LineLength.{length-refusal-text}
@@ -24,7 +24,7 @@ returns c =
     let place = at-cause.before.args.refusal.place in
     let number = at-number.number_of_lem in
     let read : Numbered = record { number = number.result; place = place } in
-    let is : refusalText read ≡ _ = ap (λ v. refusalText (record { number = v; place = place })) number.ensures in
+    let is : refusal_text read ≡ _ = ap (λ v. refusal_text (record { number = v; place = place })) number.ensures in
     let word = named.put-bytes.ensures in
     let (number_put, number_short) = numbered.put-size.ensures in
     let (place-put, place_short) = placed.put-size2.ensures in

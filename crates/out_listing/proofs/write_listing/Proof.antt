@@ -7,7 +7,7 @@ use native.Mathlib.Omega.{arith}
 use borrow.Author.Rules.{rules}
 use lib.ListN.{length, take}
 use Rattle.rules.specs.Answers.{outcome}
-use Rattle.rules.specs.Listing.{textFrom}
+use Rattle.rules.specs.Listing.{text_from}
 use Rattle.out_text.specs.Growing.{puts-as}
 use Rattle.out_listing.specs.WholeText.{begun, listed, not_listed}
 use Rattle.out_listing.proofs.write_listing.Statement.{statement}
@@ -22,7 +22,7 @@ module _ (c : tie.After-put-answer) where
   start = at-space.before.before.before
 
   abbrev answered : List ℕ
-  answered = textFrom (outcome start.args.answer) start.args.«record».now
+  answered = text_from (outcome start.args.answer) start.args.«record».now
 
   put : (take c.put-answer.result c.put-answer.new.0 ≡ answered) × (c.put-answer.result ≡ length answered)
   put = begun c.put-answer.ensures (search rules)

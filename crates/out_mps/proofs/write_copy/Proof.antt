@@ -6,9 +6,9 @@ use native.Mathlib.Omega.{arith}
 use borrow.Author.Rules.{rules}
 use lib.ListN.{length, take}
 use Rattle.rules.specs.Refusals.{numbered, number_of}
-use Rattle.rules_mps.specs.Mps.{mpsText, longestMps}
+use Rattle.rules_mps.specs.Mps.{mps_text, longest_mps}
 use Rattle.proof_laws.specs.Outputs.{writes-refused, writes-all, too_short, long-enough}
-use Rattle.sheet_figures.specs.Figures.{problemOf}
+use Rattle.sheet_figures.specs.Figures.{problem_of}
 use Rattle.out_text.specs.Growing.{puts-as, whole-put, front-put}
 use Rattle.out_mps_text.specs.Longest.{text-short}
 use Rattle.out_mps.proofs.write_copy.Statement.{statement}
@@ -20,10 +20,10 @@ module _ (c : tie.After-put-text) where
   start = c.before.before.before
 
   abbrev t : List ℕ
-  t = mpsText (problemOf start.args.f start.args.coefficient.now)
+  t = mps_text (problem_of start.args.f start.args.coefficient.now)
 
   short : length t ≤ 9248
-  unfolding longestMps
+  unfolding longest_mps
   short = text-short start.pre
 
   put : (take c.put-text.result c.put-text.new.0 ≡ t) × (c.put-text.result ≡ length t)

@@ -2,9 +2,9 @@
 use mathlib.Core.Path.{refl}
 use native.Mathlib.Omega.{arith}
 use borrow.Author.Rules.{rules}
-use Rattle.rules_mps.specs.Mps.{mpsText, longestMps}
+use Rattle.rules_mps.specs.Mps.{mps_text, longest_mps}
 use Rattle.proof_laws.specs.Outputs.{writes-all, long-enough}
-use Rattle.sheet_figures.specs.Figures.{problemOf}
+use Rattle.sheet_figures.specs.Figures.{problem_of}
 use Rattle.out_text.specs.Growing.{whole-put}
 use Rattle.out_mps_text.specs.Longest.{text-short}
 use Rattle.out_mps.proofs.write_figures.Statement.{statement}
@@ -16,11 +16,11 @@ put-text-requires c κs =
     record { narrow = a.materials-few; few = a.limits-few }
 
 returns-2 : tie.Need-returns-2
-unfolding longestMps
+unfolding longest_mps
 returns-2 c =
     let put = c.before.before in
     let start = put.before.before.before.before in
-    let t = mpsText (problemOf start.args.f start.args.coefficient.now) in
+    let t = mps_text (problem_of start.args.f start.args.coefficient.now) in
     let short = text-short start.requires in
     let (is, length-is) = whole-put put.put-text.ensures (omega (arith, short)) in
     writes-all (long-enough 11 t refl (omega (arith, short))) length-is is

@@ -7,9 +7,9 @@ use lib.IntN.{ℤ, pos}
 use lib.ListN.{length, replicate, length-replicate}
 use borrow.Author.Rules.{rules}
 use Rattle.rules.specs.declared.Output.{Output}
-use Rattle.rules.specs.Refusals.{Numbered, refusalOf, layoutRefusal}
-use Rattle.rules.specs.Output.{shortBuffer, Writes}
-use Rattle.rules_mps.specs.Mps.{mpsOf, mpsRefusal}
+use Rattle.rules.specs.Refusals.{Numbered, refusal_of, layout_refusal}
+use Rattle.rules.specs.Output.{short_buffer, Writes}
+use Rattle.rules_mps.specs.Mps.{mps_of, mps_refusal}
 use Rattle.proof_laws.specs.FirstPlace.{given, handed-on}
 use Rattle.proof_laws.specs.Outputs.{writes-refused}
 use Rattle.sheet_read.specs.Agreeing.{agree, accepted-in-arrays}
@@ -28,11 +28,11 @@ zeros = replicate 512 (pos 0)
 
 -- ---- the sheet is refused
 returns : tie.Need-returns
-unfolding refusalOf mpsRefusal
+unfolding refusal_of mps_refusal
 returns c =
     let told = c.before in
     let read = told.before.before in
-    writes-refused _ (given _ (sym read.read-sheet.ensures.verdict ∙ ap refusalOf told.verdict.given.1))
+    writes-refused _ (given _ (sym read.read-sheet.ensures.verdict ∙ ap refusal_of told.verdict.given.1))
 
 -- ---- the sheet is read
 module _ (c : tie.After-enum-told) where
@@ -45,9 +45,9 @@ module _ (c : tie.After-enum-told) where
   abbrev sheet : List ℕ
   sheet = start.args.sheet.now
 
-  accepted : layoutRefusal sheet ≡ none
-  unfolding refusalOf
-  accepted = sym read.read-sheet.ensures.verdict ∙ ap refusalOf c.enum_told.given.1
+  accepted : layout_refusal sheet ≡ none
+  unfolding refusal_of
+  accepted = sym read.read-sheet.ensures.verdict ∙ ap refusal_of c.enum_told.given.1
 
 write-figures-requires : tie.Need-write-figures-requires
 write-figures-requires c κs =
@@ -56,14 +56,14 @@ write-figures-requires c κs =
     accepted-in-arrays (sheet r) (accepted r) zeros long (read r).read-sheet.ensures
 
 returns-2 : tie.Need-returns-2
-unfolding mpsOf mpsRefusal
+unfolding mps_of mps_refusal
 returns-2 c =
     let wrote = c.before.before in
     let r = wrote.before.before.before in
     let lent = (start r).args.text.now in
     let long = length-replicate 512 (pos 0) in
     let same = same_text (agree (sheet r) (accepted r) zeros long (read r).read-sheet.ensures) in
-    same_writes same ((λ i. shortBuffer 11 (same i) (length lent)) ∙ sym (handed-on _ (accepted r)))
+    same_writes same ((λ i. short_buffer 11 (same i) (length lent)) ∙ sym (handed-on _ (accepted r)))
     wrote.write-figures.ensures
 
 pub write-mps-spec : {M : Type 1} → statement M

@@ -4,7 +4,7 @@ use borrow.Author.Rules.{rules}
 use lib.ListN.{length}
 use Rattle.rules.specs.declared.Output.{Output}
 use Rattle.rules.specs.Output.{Writes}
-use Rattle.rules_mps.specs.Mps.{mpsOf, mpsRefusal}
+use Rattle.rules_mps.specs.Mps.{mps_of, mps_refusal}
 use Rattle.out_mps.specs.Printed.{text-printed, refusal-printed}
 use Rattle.out_mps.proofs.write_printed.Statement.{statement}
 use Rattle.out_mps.proofs.write_printed.Tie as tie
@@ -15,12 +15,12 @@ module _ (c : tie.After-write-mps) where
   start = c.before.before.before.before
 
   known : {o : Output} → c.write-mps.result ≡ o → let a = start.args in
-      Writes (mpsOf a.sheet.now) (mpsRefusal a.sheet.now (length a.text.now)) a.text.now
+      Writes (mps_of a.sheet.now) (mps_refusal a.sheet.now (length a.text.now)) a.text.now
       c.write-mps.new.1.0 o
   known e =
       let a = start.args in
       subst
-      (λ o. Writes (mpsOf a.sheet.now) (mpsRefusal a.sheet.now (length a.text.now)) a.text.now
+      (λ o. Writes (mps_of a.sheet.now) (mps_refusal a.sheet.now (length a.text.now)) a.text.now
       c.write-mps.new.1.0 o)
       e
       c.write-mps.ensures

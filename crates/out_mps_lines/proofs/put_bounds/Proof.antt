@@ -7,7 +7,7 @@ use mir.Syntax.{w64}
 use mir.Val.{SFits, to_z, of_z}
 use mir.Facts.{to_z-of_z}
 use Rattle.rules.specs.Listing.{text, decimal}
-use Rattle.rules_mps.specs.Mps.{materialName, fields, boundLines}
+use Rattle.rules_mps.specs.Mps.{material_name, fields, bound_lines}
 use Rattle.out_text.specs.Growing.{puts-as, then}
 use Rattle.out_mps_lines.proofs.put_bounds.Statement.{statement}
 use Rattle.out_mps_lines.proofs.put_bounds.Tie as tie
@@ -17,7 +17,7 @@ figure-last : {v : ℤ} → SFits w64 v → fields (decimal (to_z w64 (of_z w64 
 figure-last fits = λ k. fields (decimal (to_z-of_z fits k) ∷ [])
 
 returns : tie.Need-returns
-unfolding boundLines fields materialName text
+unfolding bound_lines fields material_name text
 returns c =
     let most = c.before.before in
     let upper = most.before.before.before.before in

@@ -2,18 +2,18 @@
 use borrow.Author.Rules.{rules}
 use mir.Facts.{to_z-of_z}
 use Rattle.rules.specs.Listing.{text}
-use Rattle.rules_mps.specs.Mps.{materialName, limitName, fields, coefficientLine}
+use Rattle.rules_mps.specs.Mps.{material_name, limit_name, fields, coefficient_line}
 use Rattle.out_text.specs.Growing.{then}
 use Rattle.out_mps_lines.proofs.UnlessZero.{left_out, put_in}
 use Rattle.out_mps_lines.proofs.put_coefficient.Statement.{statement}
 use Rattle.out_mps_lines.proofs.put_coefficient.Tie as tie
 
 returns : tie.Need-returns
-unfolding coefficientLine
+unfolding coefficient_line
 returns c = left_out c.before.before.ranges.coefficient _ c.if1.true
 
 returns-2 : tie.Need-returns-2
-unfolding coefficientLine fields materialName limitName text
+unfolding coefficient_line fields material_name limit_name text
 returns-2 c =
     let last = c.before.before in
     let limit = last.before.before.before.before in

@@ -2,13 +2,13 @@
 use borrow.Author.Rules.{rules}
 use mir.Facts.{to_z-of_z}
 use Rattle.rules.specs.Listing.{text}
-use Rattle.rules_mps.specs.Mps.{materialName, fields, costLine}
+use Rattle.rules_mps.specs.Mps.{material_name, fields, cost_line}
 use Rattle.out_text.specs.Growing.{then}
 use Rattle.out_mps_lines.proofs.put_cost.Statement.{statement}
 use Rattle.out_mps_lines.proofs.put_cost.Tie as tie
 
 returns : tie.Need-returns
-unfolding costLine fields materialName text
+unfolding cost_line fields material_name text
 returns c =
     let last = c.before.before in
     let row = last.before.before.before.before in

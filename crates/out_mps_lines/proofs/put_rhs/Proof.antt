@@ -2,18 +2,18 @@
 use borrow.Author.Rules.{rules}
 use mir.Facts.{to_z-of_z}
 use Rattle.rules.specs.Listing.{text}
-use Rattle.rules_mps.specs.Mps.{limitName, fields, rhsLine}
+use Rattle.rules_mps.specs.Mps.{limit_name, fields, rhs_line}
 use Rattle.out_text.specs.Growing.{then}
 use Rattle.out_mps_lines.proofs.UnlessZero.{left_out, put_in}
 use Rattle.out_mps_lines.proofs.put_rhs.Statement.{statement}
 use Rattle.out_mps_lines.proofs.put_rhs.Tie as tie
 
 returns : tie.Need-returns
-unfolding rhsLine
+unfolding rhs_line
 returns c = left_out c.before.before.ranges.rhs _ c.if1.true
 
 returns-2 : tie.Need-returns-2
-unfolding rhsLine fields limitName text
+unfolding rhs_line fields limit_name text
 returns-2 c =
     let last = c.before.before in
     let limit = last.before.before.before.before in

@@ -6,7 +6,7 @@ use mir.Val.{SFits}
 use borrow.Author.Rules.{rules}
 use Rattle.proof_integer.specs.Range.{widened, widened_is}
 use Rattle.rules.specs.Notation.{at}
-use Rattle.rules_mps.specs.Mps.{boundLines}
+use Rattle.rules_mps.specs.Mps.{bound_lines}
 use Rattle.out_text.specs.Growing.{puts-as, length-kept}
 use Rattle.out_lines.specs.ManyLines.{LinesPut, no_line, line-more, all_lines}
 use Rattle.out_mps_sections.proofs.put_all_bounds.Statement.{statement}
@@ -14,7 +14,7 @@ use Rattle.out_mps_sections.proofs.put_all_bounds.Tie as tie
 
 abbrev invariant-loop : tie.invariant-loop
 invariant-loop d₀ from n least most end₀ j₀ d end j =
-    LinesPut (λ j. boundLines j (at least j) (at most j)) n d₀ from d end j
+    LinesPut (λ j. bound_lines j (at least j) (at most j)) n d₀ from d end j
 
 abbrev decreases-loop : tie.decreases-loop
 decreases-loop d₀ from n least most end₀ j₀ d end j = n - j
@@ -40,7 +40,7 @@ loop-again c =
     let least-is = widened_is w64 tt (least_fits read.before) in
     let most-is = widened_is w64 tt (most-fits read) in
     line-more turn.loop.inv (omega arith)
-    (puts-as (λ k. boundLines turn.loop.j (least-is k) (most-is k)) called.put-bounds.ensures)
+    (puts-as (λ k. bound_lines turn.loop.j (least-is k) (most-is k)) called.put-bounds.ensures)
 
 pub put-all-bounds-spec : {M : Type 1} → statement M
 put-all-bounds-spec =

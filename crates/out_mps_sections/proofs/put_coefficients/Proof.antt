@@ -7,7 +7,7 @@ use mir.Val.{SFits}
 use borrow.Author.Rules.{rules}
 use Rattle.proof_integer.specs.Range.{widened, widened_is}
 use Rattle.rules.specs.Notation.{at}
-use Rattle.rules_mps.specs.Mps.{coefficientLine}
+use Rattle.rules_mps.specs.Mps.{coefficient_line}
 use Rattle.out_text.specs.Growing.{puts-as, length-kept}
 use Rattle.out_lines.specs.ManyLines.{LinesPut, no_line, line-more, all_lines}
 use Rattle.out_mps_sections.proofs.put_coefficients.Statement.{statement}
@@ -15,7 +15,7 @@ use Rattle.out_mps_sections.proofs.put_coefficients.Tie as tie
 
 abbrev invariant-loop : tie.invariant-loop
 invariant-loop d₀ from j m coefficient end₀ i₀ d end i =
-    LinesPut (λ i. coefficientLine j i (at coefficient (32 * i + j))) m d₀ from d end i
+    LinesPut (λ i. coefficient_line j i (at coefficient (32 * i + j))) m d₀ from d end i
 
 abbrev decreases-loop : tie.decreases-loop
 decreases-loop d₀ from j m coefficient end₀ i₀ d end i = m - i
@@ -35,7 +35,7 @@ loop-again : tie.Need-loop-preserved invariant-loop decreases-loop
 loop-again c =
     let called = c.before.before in
     let read = called.before in
-    let line = coefficientLine (start read).args.j (loop read).loop.i in
+    let line = coefficient_line (start read).args.j (loop read).loop.i in
     line-more (loop read).loop.invariant (omega arith)
     (puts-as (ap line (widened_is w64 tt (fits read))) called.put-coefficient.ensures)
 

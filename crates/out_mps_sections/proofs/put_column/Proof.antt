@@ -1,13 +1,13 @@
 -- The cost, and then the coefficients.
 use borrow.Author.Rules.{rules}
 use mir.Facts.{to_z-of_z}
-use Rattle.rules_mps.specs.Mps.{columnLines}
+use Rattle.rules_mps.specs.Mps.{column_lines}
 use Rattle.out_text.specs.Growing.{then}
 use Rattle.out_mps_sections.proofs.put_column.Statement.{statement}
 use Rattle.out_mps_sections.proofs.put_column.Tie as tie
 
 returns : tie.Need-returns
-unfolding columnLines
+unfolding column_lines
 returns c =
     let limits = c.before.before in
     let cost = limits.before.before.before.before in

@@ -6,7 +6,7 @@ use mir.Val.{SFits}
 use borrow.Author.Rules.{rules}
 use Rattle.proof_integer.specs.Range.{widened, widened_is}
 use Rattle.rules.specs.Notation.{at}
-use Rattle.rules_mps.specs.Mps.{columnLines}
+use Rattle.rules_mps.specs.Mps.{column_lines}
 use Rattle.out_text.specs.Growing.{puts-as, length-kept}
 use Rattle.out_lines.specs.ManyLines.{LinesPut, no_line, line-more, all_lines}
 use Rattle.out_mps_sections.proofs.put_columns.Statement.{statement}
@@ -14,7 +14,7 @@ use Rattle.out_mps_sections.proofs.put_columns.Tie as tie
 
 abbrev invariant-loop : tie.invariant-loop
 invariant-loop d₀ from n m cost coefficient end₀ j₀ d end j =
-    LinesPut (λ j. columnLines j m (at cost j) (λ i. at coefficient (32 * i + j))) n d₀ from d end j
+    LinesPut (λ j. column_lines j m (at cost j) (λ i. at coefficient (32 * i + j))) n d₀ from d end j
 
 abbrev decreases-loop : tie.decreases-loop
 decreases-loop d₀ from n m cost coefficient end₀ j₀ d end j = n - j
@@ -38,7 +38,7 @@ loop-again c =
     let args = (start read).args in
     let cost-is = widened_is w64 tt (fits read) in
     line-more (loop read).loop.invariant (omega arith)
-    (puts-as (λ k. columnLines j args.m (cost-is k) (λ i. at args.coefficient.now (32 * i + j)))
+    (puts-as (λ k. column_lines j args.m (cost-is k) (λ i. at args.coefficient.now (32 * i + j)))
     called.put-column.ensures)
 
 pub put-columns-spec : {M : Type 1} → statement M

@@ -7,14 +7,14 @@ use mir.Val.{SFits}
 use borrow.Author.Rules.{rules}
 use Rattle.proof_integer.specs.Range.{widened, widened_is}
 use Rattle.rules.specs.Notation.{at}
-use Rattle.rules_mps.specs.Mps.{rhsLine}
+use Rattle.rules_mps.specs.Mps.{rhs_line}
 use Rattle.out_text.specs.Growing.{puts-as, length-kept}
 use Rattle.out_lines.specs.ManyLines.{LinesPut, no_line, line-more, all_lines}
 use Rattle.out_mps_sections.proofs.put_right_hand_sides.Statement.{statement}
 use Rattle.out_mps_sections.proofs.put_right_hand_sides.Tie as tie
 
 abbrev invariant-loop : tie.invariant-loop
-invariant-loop d₀ from m rhs end₀ i₀ d end i = LinesPut (λ i. rhsLine i (at rhs i)) m d₀ from d end i
+invariant-loop d₀ from m rhs end₀ i₀ d end i = LinesPut (λ i. rhs_line i (at rhs i)) m d₀ from d end i
 
 abbrev decreases-loop : tie.decreases-loop
 decreases-loop d₀ from m rhs end₀ i₀ d end i = m - i
@@ -32,7 +32,7 @@ loop-again c =
     let called = c.before.before in
     let read = called.before in
     line-more (loop read).loop.invariant (omega arith)
-    (puts-as (ap (rhsLine (loop read).loop.i) (widened_is w64 tt (fits read))) called.put-rhs.ensures)
+    (puts-as (ap (rhs_line (loop read).loop.i) (widened_is w64 tt (fits read))) called.put-rhs.ensures)
 
 pub put-right-hand-sides-spec : {M : Type 1} → statement M
 put-right-hand-sides-spec =

@@ -2,12 +2,12 @@
 use borrow.Author.Rules.{rules}
 use Rattle.rules.specs.Listing.{text}
 use Rattle.out_text.specs.Growing.{then}
-use Rattle.out_mps_text.specs.Halves.{lowerText}
+use Rattle.out_mps_text.specs.Halves.{lower_text}
 use Rattle.out_mps_text.proofs.put_lower.Statement.{statement}
 use Rattle.out_mps_text.proofs.put_lower.Tie as tie
 
 returns : tie.Need-returns
-unfolding lowerText text
+unfolding lower_text text
 returns c =
     let ended = c.before.before in
     let bounds = ended.before.before.before.before.before in

@@ -2,12 +2,12 @@
 use borrow.Author.Rules.{rules}
 use Rattle.rules.specs.Listing.{text}
 use Rattle.out_text.specs.Growing.{then}
-use Rattle.out_mps_text.specs.Halves.{upperText}
+use Rattle.out_mps_text.specs.Halves.{upper_text}
 use Rattle.out_mps_text.proofs.put_upper.Statement.{statement}
 use Rattle.out_mps_text.proofs.put_upper.Tie as tie
 
 returns : tie.Need-returns
-unfolding upperText text
+unfolding upper_text text
 returns c =
     let columns = c.before.before in
     let named = columns.before.before.before.before in

@@ -9,14 +9,14 @@ use lib.IntN.{pos}
 use Rattle.rules.specs.Listing.{decimal}
 use Rattle.out_text.specs.Text.{Puts}
 use Rattle.out_numbers.specs.DecimalLength.{length-decimal-pos}
-use Rattle.out_numbers.proofs.Digits.{lastDigits, last-decimal, length_last}
+use Rattle.out_numbers.proofs.Digits.{ending_digits, last-decimal, length_last}
 use Rattle.out_numbers.proofs.LastFirst.{StillToStore, last_stored, none_left, puts-past}
 use Rattle.out_numbers.proofs.put_number.Statement.{statement}
 use Rattle.out_numbers.proofs.put_number.Tie as tie
 
 abbrev invariant-loop : tie.invariant-loop
 invariant-loop d₀ at v end place₀ left₀ d place left =
-    (at ≤ place) × StillToStore (decimal (pos v)) d₀ at (lastDigits (place - at) left) d
+    (at ≤ place) × StillToStore (decimal (pos v)) d₀ at (ending_digits (place - at) left) d
 
 abbrev decreases-loop : tie.decreases-loop
 decreases-loop d₀ at v end place₀ left₀ d place left = place
@@ -36,7 +36,7 @@ loop-holds c =
     (omega arith, record { is = rw (all, c.places.ensures, last-decimal); length-is = refl })
 
 loop-again : tie.Need-loop-preserved invariant-loop decreases-loop
-unfolding lastDigits
+unfolding ending_digits
 loop-again c =
     let called = c.before.before in
     let turn = called.before.before.before in
@@ -58,7 +58,7 @@ module _ (c : tie.After-loop invariant-loop decreases-loop) where
   start = counted.before.before.before
 
   none : StillToStore (decimal (pos start.args.v)) start.args.d.now start.args.at [] turn.loop.d
-  unfolding lastDigits
+  unfolding ending_digits
   none = let e : turn.loop.place - start.args.at ≡ 0 = omega arith in rw e at turn.loop.inv.1
 
   -- so that the text ends after the digits, or where the bytes do

@@ -1,15 +1,15 @@
 -- The lines of a plan, one kind after the other.
 use mathlib.Core.Path.{◌∙◌}
 use borrow.Author.Rules.{rules}
-use Rattle.rules.specs.Record.{recordLength}
+use Rattle.rules.specs.Record.{record_length}
 use Rattle.rules.specs.Listing.{text}
 use Rattle.out_text.specs.Growing.{puts-as, then}
-use Rattle.out_plan.specs.RecordText.{recordText, plan-text}
+use Rattle.out_plan.specs.RecordText.{record_text, plan-text}
 use Rattle.out_plan.proofs.put_plan.Statement.{statement}
 use Rattle.out_plan.proofs.put_plan.Tie as tie
 
 returns : tie.Need-returns
-unfolding recordText text
+unfolding record_text text
 returns c =
     let gap = c.before.before in
     let at-bounded = gap.before.before.before in
@@ -28,11 +28,11 @@ returns c =
     rw (at-multipliers.multipliers-at.ensures, at_totals.totals-at.ensures) at limits.put-limits.ensures in
     let put = then (then steps.put-steps.ensures materials.put-materials.ensures) limits-put in
     puts-as
-    ((λ k. recordText r (start.requires.materials k) (start.requires.limits k)) ∙ plan-text r)
+    ((λ k. record_text r (start.requires.materials k) (start.requires.limits k)) ∙ plan-text r)
     (then (then put low.put-value.ensures) gap.put-value2.ensures)
 
 pub put-plan-spec : {M : Type 1} → statement M
-unfolding recordLength
+unfolding record_length
 put-plan-spec =
     tie.close
     (tie.spec

@@ -7,33 +7,33 @@ use lib.ListN.{length, drop, length-append}
 use borrow.Author.Rules.{rules}
 use Rattle.proof_integer.specs.Vector.{length-tabulate}
 use Rattle.rules.specs.Notation.{at}
-use Rattle.rules.specs.Record.{sumsAt, recordOf, recordLength}
+use Rattle.rules.specs.Record.{sums_at, record_of, record_length}
 use Rattle.bytes_write.specs.Written.{written, Filled, filled-to, extend}
 use Rattle.bytes_write.specs.Number.{length-unsigned, length-signed}
-use Rattle.out_fields.specs.Fields.{firstFields, length-first}
+use Rattle.out_fields.specs.Fields.{first_fields, length-first}
 use Rattle.out_record.specs.declared.Head.{Head}
-use Rattle.out_record.specs.RecordParts.{headBytes, planIn}
+use Rattle.out_record.specs.RecordParts.{head_bytes, plan_in}
 use Rattle.out_record.specs.RecordLength.{length-record}
 use Rattle.out_record.proofs.write_record.Statement.{statement}
 use Rattle.out_record.proofs.write_record.Tie as tie
 
-length-head : (head : Head) → length (headBytes head) ≡ sumsAt
-unfolding headBytes
+length-head : (head : Head) → length (head_bytes head) ≡ sums_at
+unfolding head_bytes
 length-head head = simp (length-append, length-unsigned, length-signed)
 
 module _ (head : Head) (sums multipliers totals : List ℤ) where
   -- the four parts are the record
-  parts : ((headBytes head ++ firstFields 4 head.materials sums) ++ firstFields 4 head.limits multipliers)
-      ++ firstFields 8 head.limits totals ≡ recordOf (planIn head sums multipliers totals)
-  unfolding headBytes recordOf planIn
+  parts : ((head_bytes head ++ first_fields 4 head.materials sums) ++ first_fields 4 head.limits multipliers)
+      ++ first_fields 8 head.limits totals ≡ record_of (plan_in head sums multipliers totals)
+  unfolding head_bytes record_of plan_in
   parts = simp append_assoc
 
   -- and it has the record's length
-  record-length : length (recordOf (planIn head sums multipliers totals))
-      ≡ recordLength head.materials head.limits
-  unfolding planIn
+  record-length : length (record_of (plan_in head sums multipliers totals))
+      ≡ record_length head.materials head.limits
+  unfolding plan_in
   record-length =
-      length-record (planIn head sums multipliers totals) head.materials head.limits
+      length-record (plan_in head sums multipliers totals) head.materials head.limits
       (length-tabulate head.materials (at sums))
       (length-tabulate head.limits (at multipliers))
       (length-tabulate head.limits (at totals))
@@ -73,25 +73,25 @@ returns c =
     let sums = s.args.sums.now in
     let multipliers = s.args.multipliers.now in
     let totals = s.args.residual-totals.now in
-    let with-head : Filled d₀ (headBytes head) sumsAt (headed wrote).put-head.new.0 =
+    let with-head : Filled d₀ (head_bytes head) sums_at (headed wrote).put-head.new.0 =
     record { is = (headed wrote).put-head.ensures; long = length-head head } in
-    let with-sums = extend (firstFields 4 n sums) with-head (length-first 4 n sums) (summed wrote).put_32.ensures in
+    let with-sums = extend (first_fields 4 n sums) with-head (length-first 4 n sums) (summed wrote).put_32.ensures in
     let multipliers-place = (at-multipliers wrote).multipliers-at.ensures in
     let after-sums = filled-to multipliers-place with-sums in
     let with-multipliers =
-    extend (firstFields 4 m multipliers) after-sums (length-first 4 m multipliers)
+    extend (first_fields 4 m multipliers) after-sums (length-first 4 m multipliers)
     (multiplied wrote).put-322.ensures in
     let totals-place = (at_totals wrote).totals-at.ensures ∙ ap (λ (a : ℕ). a + 4 * m) (sym multipliers-place) in
     let after-multipliers = filled-to totals-place with-multipliers in
     let with-totals =
-    extend (firstFields 8 m totals) after-multipliers (length-first 8 m totals) wrote.put-64.ensures in
+    extend (first_fields 8 m totals) after-multipliers (length-first 8 m totals) wrote.put-64.ensures in
     with-totals.is
     ∙ ap (λ (bytes : List ℕ). written bytes d₀) (parts head sums multipliers totals)
-    ∙ ap (λ (a : ℕ). recordOf (planIn head sums multipliers totals) ++ drop a d₀)
+    ∙ ap (λ (a : ℕ). record_of (plan_in head sums multipliers totals) ++ drop a d₀)
     (record-length head sums multipliers totals)
 
 pub write-record-spec : {M : Type 1} → statement M
-unfolding recordLength
+unfolding record_length
 write-record-spec =
     tie.close
     (tie.spec

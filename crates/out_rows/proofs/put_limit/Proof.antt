@@ -10,12 +10,12 @@ use mir.Facts.{to_z-of_z, to_z_pos}
 use Rattle.rules.specs.Listing.{text, line}
 use Rattle.out_text.specs.Growing.{puts-as}
 use Rattle.out_lines.specs.Lines.{line_of}
-use Rattle.out_rows.specs.RecordLines.{limitLine}
+use Rattle.out_rows.specs.RecordLines.{limit_line}
 use Rattle.out_rows.proofs.put_limit.Statement.{statement}
 use Rattle.out_rows.proofs.put_limit.Tie as tie
 
 returns : tie.Need-returns
-unfolding limitLine line_of line text
+unfolding limit_line line_of line text
 returns c =
     let called = c.before.before in
     let at-figures = called.before in

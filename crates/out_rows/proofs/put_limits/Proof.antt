@@ -4,13 +4,13 @@ use native.Mathlib.Omega.{arith}
 use borrow.Author.Rules.{rules}
 use Rattle.out_text.specs.Growing.{length-kept}
 use Rattle.out_lines.specs.ManyLines.{LinesPut, no_line, line-more, all_lines}
-use Rattle.out_rows.specs.RecordLines.{limitLine}
+use Rattle.out_rows.specs.RecordLines.{limit_line}
 use Rattle.out_rows.proofs.put_limits.Statement.{statement}
 use Rattle.out_rows.proofs.put_limits.Tie as tie
 
 abbrev invariant-loop : tie.invariant-loop
 invariant-loop d₀ at «record» multipliers totals m end₀ i₀ d end i =
-    LinesPut (limitLine «record» multipliers totals) m d₀ at d end i
+    LinesPut (limit_line «record» multipliers totals) m d₀ at d end i
 
 abbrev decreases-loop : tie.decreases-loop
 decreases-loop d₀ at «record» multipliers totals m end₀ i₀ d end i = m - i

@@ -10,12 +10,12 @@ use mir.Facts.{to_z-of_z, to_z_pos}
 use Rattle.rules.specs.Listing.{text, line}
 use Rattle.out_text.specs.Growing.{puts-as}
 use Rattle.out_lines.specs.Lines.{line_of}
-use Rattle.out_rows.specs.RecordLines.{materialLine}
+use Rattle.out_rows.specs.RecordLines.{material_line}
 use Rattle.out_rows.proofs.put_material.Statement.{statement}
 use Rattle.out_rows.proofs.put_material.Tie as tie
 
 returns : tie.Need-returns
-unfolding materialLine line_of line text
+unfolding material_line line_of line text
 returns c =
     let called = c.before.before in
     let at-figures = called.before in

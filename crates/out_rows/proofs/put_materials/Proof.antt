@@ -4,12 +4,12 @@ use native.Mathlib.Omega.{arith}
 use borrow.Author.Rules.{rules}
 use Rattle.out_text.specs.Growing.{length-kept}
 use Rattle.out_lines.specs.ManyLines.{LinesPut, no_line, line-more, all_lines}
-use Rattle.out_rows.specs.RecordLines.{materialLine}
+use Rattle.out_rows.specs.RecordLines.{material_line}
 use Rattle.out_rows.proofs.put_materials.Statement.{statement}
 use Rattle.out_rows.proofs.put_materials.Tie as tie
 
 abbrev invariant-loop : tie.invariant-loop
-invariant-loop d₀ at «record» n end₀ j₀ d end j = LinesPut (materialLine «record») n d₀ at d end j
+invariant-loop d₀ at «record» n end₀ j₀ d end j = LinesPut (material_line «record») n d₀ at d end j
 
 abbrev decreases-loop : tie.decreases-loop
 decreases-loop d₀ at «record» n end₀ j₀ d end j = n - j

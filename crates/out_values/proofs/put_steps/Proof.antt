@@ -10,12 +10,12 @@ use mir.Facts.{to_z_pos}
 use Rattle.rules.specs.Listing.{text, line}
 use Rattle.out_text.specs.Growing.{puts-as}
 use Rattle.out_lines.specs.Lines.{line_of}
-use Rattle.out_values.specs.StepsLine.{stepsLine}
+use Rattle.out_values.specs.StepsLine.{steps_line}
 use Rattle.out_values.proofs.put_steps.Statement.{statement}
 use Rattle.out_values.proofs.put_steps.Tie as tie
 
 returns : tie.Need-returns
-unfolding stepsLine line_of line text
+unfolding steps_line line_of line text
 returns c =
     let called = c.before.before in
     let at-figures = called.before in

@@ -6,7 +6,7 @@ use Prim.Native.Nat.{ℕ}
 use lib.IntN.{ℤ, pos}
 use lib.ListN.{length, replicate, length-replicate}
 use borrow.Author.Rules.{rules}
-use Rattle.rules.specs.Refusals.{refusalOf, layoutRefusal}
+use Rattle.rules.specs.Refusals.{refusal_of, layout_refusal}
 use Rattle.planner.proofs.Ending.{ends-refused, ends_same, promised}
 use Rattle.planner.proofs.Sheets.{figures-ready, plan-is, refusal_is, layout-refused}
 use Rattle.planner.proofs.plan.Statement.{statement}
@@ -25,7 +25,7 @@ at-start c = (at_a c).before.before.before
 
 -- ---- the sheet is refused
 returns : tie.Need-returns
-unfolding refusalOf
+unfolding refusal_of
 returns c =
     let told = c.before in
     let read = told.before.before in
@@ -33,7 +33,7 @@ returns c =
     promised
     (ends-refused _
     (layout-refused s.args.sheet.now (length s.args.«record».now)
-    (sym read.read-sheet.ensures.verdict ∙ ap refusalOf told.verdict.given.1)))
+    (sym read.read-sheet.ensures.verdict ∙ ap refusal_of told.verdict.given.1)))
 
 -- ---- the sheet is read
 module _ (c : tie.After-enum-told) where
@@ -43,9 +43,9 @@ module _ (c : tie.After-enum-told) where
   abbrev sheet : List ℕ
   sheet = (at-start read).args.sheet.now
 
-  accepted : layoutRefusal sheet ≡ none
-  unfolding refusalOf
-  accepted = sym read.read-sheet.ensures.verdict ∙ ap refusalOf c.enum_told.given.1
+  accepted : layout_refusal sheet ≡ none
+  unfolding refusal_of
+  accepted = sym read.read-sheet.ensures.verdict ∙ ap refusal_of c.enum_told.given.1
 
 plan-figures-requires : tie.Need-plan-figures-requires
 plan-figures-requires c κs =

@@ -6,14 +6,14 @@ use lib.ListN.{length}
 use borrow.Author.Rules.{rules}
 use borrow.Author.Tests.{lt-ltb, le-ltb}
 use Rattle.rules.specs.Refusals.{numbered, number_of, refuse}
-use Rattle.rules.specs.Answers.{planRefusal}
+use Rattle.rules.specs.Answers.{plan_refusal}
 use Rattle.proof_laws.specs.FirstPlace.{refuse-yes, refuse-no, given, handed-on}
 use Rattle.planner.proofs.Ending.{ends-refused, ends_same}
 use Rattle.planner.proofs.plan_figures.Statement.{statement}
 use Rattle.planner.proofs.plan_figures.Tie as tie
 
 returns : tie.Need-returns
-unfolding numbered number_of planRefusal
+unfolding numbered number_of plan_refusal
 returns c =
     let s = c.before.before.before in
     let wanted = c.before.record-length.ensures in
@@ -27,7 +27,7 @@ plan-run-requires c κs =
     record { figures = read.before.before.requires; room = rw read.record-length.ensures at c.before.if1.false }
 
 returns-2 : tie.Need-returns-2
-unfolding planRefusal
+unfolding plan_refusal
 returns-2 c =
     let ran = c.before.before in
     let else = ran.before.before in

@@ -3,21 +3,21 @@ use mathlib.Core.Path.{◌≡◌, sym, ap, ◌∙◌}
 use mathlib.Core.Option.{none}
 use borrow.Author.Rules.{rules}
 use native.Mathlib.Nat.{le_refl}
-use Rattle.rules.specs.Refusals.{refusalOf}
-use Rattle.rules.specs.Answers.{runRefusal}
-use Rattle.sheet_figures.specs.Figures.{problemOf}
-use Rattle.run_step.specs.States.{closed_in, handedState}
+use Rattle.rules.specs.Refusals.{refusal_of}
+use Rattle.rules.specs.Answers.{run_refusal}
+use Rattle.sheet_figures.specs.Figures.{problem_of}
+use Rattle.run_step.specs.States.{closed_in, handed_state}
 use Rattle.run_step.specs.Reached.{Finished}
 use Rattle.planner.proofs.Ending.{ends-refused, ends_same, plan-in-arrays, write-ready}
 use Rattle.planner.proofs.plan_run.Statement.{statement}
 use Rattle.planner.proofs.plan_run.Tie as tie
 
 returns : tie.Need-returns
-unfolding refusalOf
+unfolding refusal_of
 returns c =
     let stopped = c.before in
     let ran = stopped.before.before in
-    ends-refused _ (sym ran.run.ensures.stop ∙ ap refusalOf stopped.stop.given.1)
+    ends-refused _ (sym ran.run.ensures.stop ∙ ap refusal_of stopped.stop.given.1)
 
 -- the run was not refused
 module _ (c : tie.After-enum-told) where
@@ -27,19 +27,19 @@ module _ (c : tie.After-enum-told) where
   abbrev s : tie.Start
   s = ran.before.before
 
-  going : runRefusal (problemOf s.args.f s.args.coefficient.now) s.args.f.steps ≡ none
-  unfolding refusalOf
-  going = sym ran.run.ensures.stop ∙ ap refusalOf c.enum_told.given.1
+  going : run_refusal (problem_of s.args.f s.args.coefficient.now) s.args.f.steps ≡ none
+  unfolding refusal_of
+  going = sym ran.run.ensures.stop ∙ ap refusal_of c.enum_told.given.1
 
   finished : Finished s.args.f s.args.coefficient.now s.args.f.steps ran.run.result.state
-  unfolding handedState
+  unfolding handed_state
   finished =
-      let P = problemOf s.args.f s.args.coefficient.now in
+      let P = problem_of s.args.f s.args.coefficient.now in
       record {
         accepted = s.pre.figures.accepted;
         few = le_refl _;
         going = going;
-        state = ran.run.ensures.state ∙ (λ i. handedState P (closed_in P s.args.f.steps) (going i));
+        state = ran.run.ensures.state ∙ (λ i. handed_state P (closed_in P s.args.f.steps) (going i));
       }
 
 write-plan-requires : tie.Need-write-plan-requires

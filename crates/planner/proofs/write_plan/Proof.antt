@@ -8,12 +8,12 @@ use mir.Facts.{to_z-of_z}
 use borrow.Author.Rules.{rules}
 use Rattle.rules.specs.Notation.{at}
 use Rattle.rules.specs.Run.{gap_of}
-use Rattle.rules.specs.Record.{recordOf, recordLength}
+use Rattle.rules.specs.Record.{record_of, record_length}
 use Rattle.sheet_figures.specs.declared.Figures.{Figures}
-use Rattle.run_costs.specs.Costs.{costsOnly}
+use Rattle.run_costs.specs.Costs.{costs_only}
 use Rattle.run_step.specs.declared.State.{State}
-use Rattle.out_record.specs.RecordParts.{planIn}
-use Rattle.planner.specs.Finish.{planWith}
+use Rattle.out_record.specs.RecordParts.{plan_in}
+use Rattle.planner.specs.Finish.{plan_with}
 use Rattle.planner.proofs.Ending.{ends-planned}
 use Rattle.planner.proofs.write_plan.Statement.{statement}
 use Rattle.planner.proofs.write_plan.Tie as tie
@@ -47,12 +47,12 @@ module _ (c : tie.After-gap) where
   low-is : to_z w64 (of_z w64 (w start).low) ≡ (w start).low
   low-is = let fits : SFits w64 (w start).low = search rules in to_z-of_z fits
 
-  gap_is : to_z w64 (of_z w64 c.gap.result) ≡ (planWith (f start) (w start)).gap
-  unfolding planWith planIn
+  gap_is : to_z w64 (of_z w64 c.gap.result) ≡ (plan_with (f start) (w start)).gap
+  unfolding plan_with plan_in
   gap_is =
       let fits : SFits w64 c.gap.result = search rules in
       let given = f start in
-      let costs = costsOnly given.materials given.scale given.cost in
+      let costs = costs_only given.materials given.scale given.cost in
       to_z-of_z fits ∙ c.gap.ensures ∙ (λ k. gap_of costs given.steps (low-is k) (at (w start).sums))
 
 -- ---- the record
@@ -67,7 +67,7 @@ abbrev at_gap : tie.After-write-record → tie.After-gap
 at_gap c = (at_totals c).before.before
 
 returns : tie.Need-returns
-unfolding planWith planIn
+unfolding plan_with plan_in
 returns c =
     let written = c.before.before in
     let g = at_gap written in
@@ -75,14 +75,14 @@ returns c =
     ends-planned (low-is g) (gap_is g)
     (written.write-record.ensures
     ∙ (λ i.
-    recordOf (planIn (record {
+    record_of (plan_in (record {
       materials = (f s).materials;
       limits = (f s).limits;
       steps = (f s).steps;
       low = low-is g i;
       gap = gap_is g i;
     }) (w s).sums (w s).multipliers (w s).totals)
-    ++ drop (recordLength (f s).materials (f s).limits) s.args.«record».now))
+    ++ drop (record_length (f s).materials (f s).limits) s.args.«record».now))
 
 pub write-plan-spec : {M : Type 1} → statement M
 write-plan-spec = tie.close (tie.spec gap-requires (λ c κs. search rules) (search rules) returns)

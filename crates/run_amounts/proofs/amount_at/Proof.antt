@@ -10,10 +10,10 @@ use borrow.Author.Rules.{rules}
 use Rattle.proof_integer.specs.Range.{widened, widened_is, small_is}
 use Rattle.rules.specs.Notation.{sum_to, at}
 use Rattle.rules.specs.Problem.{Problem}
-use Rattle.rules.specs.Step.{reducedCost, amount}
-use Rattle.run_ends.specs.Ends.{endBy}
+use Rattle.rules.specs.Step.{reduced_cost, amount}
+use Rattle.run_ends.specs.Ends.{end_by}
 use Rattle.run_sums.specs.SumsFit.{SumFits}
-use Rattle.run_amounts.specs.Amounts.{withoutRhs}
+use Rattle.run_amounts.specs.Amounts.{without_rhs}
 use Rattle.run_amounts.proofs.amount_at.Statement.{statement}
 use Rattle.run_amounts.proofs.amount_at.Tie as tie
 
@@ -23,7 +23,7 @@ module _ (s : tie.Start) where
 
   abbrev P : Problem
   P =
-      withoutRhs 0 s.args.m s.args.scale
+      without_rhs 0 s.args.m s.args.scale
       s.args.cost.now s.args.least.now s.args.most.now s.args.coefficient.now
 
   abbrev M : ℕ → ℤ
@@ -89,11 +89,11 @@ module _ (c : tie.After-end-by) where
   abbrev s : tie.Start
   s = t.before
 
-  reduced-is : called.dot-column-64.result ≡ reducedCost (P s) (M s) (j s)
-  unfolding reducedCost
+  reduced-is : called.dot-column-64.result ≡ reduced_cost (P s) (M s) (j s)
+  unfolding reduced_cost
   reduced-is = called.dot-column-64.ensures ∙ (λ k. first-is t k +ℤ sum_to s.args.m (same-products s k))
 
-  end_is : c.end_by.result ≡ endBy called.dot-column-64.result ((P s).least (j s)) ((P s).most (j s))
+  end_is : c.end_by.result ≡ end_by called.dot-column-64.result ((P s).least (j s)) ((P s).most (j s))
   end_is =
       let least_fits : SFits w16 ((P s).least (j s)) = search rules in
       let most-fits : SFits w16 ((P s).most (j s)) = search rules in
@@ -101,8 +101,8 @@ module _ (c : tie.After-end-by) where
       simp (to_z-of_z least_fits, to_z-of_z most-fits, to_z-of_z reduced-fits) at c.end_by.ensures
 
   amount-is : c.end_by.result ≡ amount (P s) (M s) (j s)
-  unfolding amount endBy
-  amount-is = end_is ∙ ap (λ z. endBy z ((P s).least (j s)) ((P s).most (j s))) reduced-is
+  unfolding amount end_by
+  amount-is = end_is ∙ ap (λ z. end_by z ((P s).least (j s)) ((P s).most (j s))) reduced-is
 
 returns : tie.Need-returns
 returns c =

@@ -9,15 +9,15 @@ use mir.Facts.{to_z-of_z}
 use borrow.Author.Rules.{rules}
 use Rattle.rules.specs.Notation.{at}
 use Rattle.rules.specs.Problem.{Problem}
-use Rattle.rules.specs.Step.{reducedCost, amount}
+use Rattle.rules.specs.Step.{reduced_cost, amount}
 use Rattle.sheet_figures.specs.Padded.{filled, fill_start, fill-next, fill_end}
-use Rattle.run_amounts.specs.Amounts.{withoutRhs}
+use Rattle.run_amounts.specs.Amounts.{without_rhs}
 use Rattle.run_amounts.proofs.choose_amounts.Statement.{statement}
 use Rattle.run_amounts.proofs.choose_amounts.Tie as tie
 
 abbrev invariant-loop : tie.invariant-loop
 invariant-loop n m scale cost least most coefficient multipliers amounts₀ j₀ amounts j =
-    (j ≤ n) × (amounts ≡ filled 32 (amount (withoutRhs n m scale cost least most coefficient) (at multipliers)) j)
+    (j ≤ n) × (amounts ≡ filled 32 (amount (without_rhs n m scale cost least most coefficient) (at multipliers)) j)
 
 abbrev decreases-loop : tie.decreases-loop
 decreases-loop n m scale cost least most coefficient multipliers amounts₀ j₀ amounts j = n - j
@@ -32,7 +32,7 @@ module _ (c : tie.In-loop invariant-loop decreases-loop) where
 
   abbrev P : Problem
   P =
-      withoutRhs s.args.n s.args.m s.args.scale
+      without_rhs s.args.n s.args.m s.args.scale
       s.args.cost.now s.args.least.now s.args.most.now s.args.coefficient.now
 
   here : j < s.args.n
@@ -49,7 +49,7 @@ module _ (c : tie.After-amount-at invariant-loop decreases-loop) where
   amount-is :
       to_z w16 (of_z w16 c.amount-at.result)
       ≡ amount (P c.before) (at (s c.before).args.multipliers.now) (j c.before)
-  unfolding amount reducedCost
+  unfolding amount reduced_cost
   amount-is =
       let fits : SFits w16 c.amount-at.result = search rules in
       to_z-of_z fits ∙ c.amount-at.ensures

@@ -10,10 +10,10 @@ use borrow.Author.Rules.{rules}
 use Rattle.rules.specs.Notation.{maxℤ}
 use Rattle.rules.specs.Problem.{Problem}
 use Rattle.rules.specs.Step.{infeasible}
-use Rattle.rules.specs.Run.{lookAfter, lowAfter}
+use Rattle.rules.specs.Run.{look_after, low_after}
 use Rattle.rules.specs.Refusals.{numbered, number_of}
-use Rattle.sheet_figures.specs.Figures.{problemOf}
-use Rattle.run_step.specs.States.{stateIn, closed_in}
+use Rattle.sheet_figures.specs.Figures.{problem_of}
+use Rattle.run_step.specs.States.{state_in, closed_in}
 use Rattle.run_step.specs.Stops.{look-refused, look-passed, hands-stop, hands-state}
 use Rattle.run_step.specs.Looks.{look-ready, test-of-run, low-of-run}
 use Rattle.run_close.proofs.close.Statement.{statement}
@@ -37,7 +37,7 @@ module _ (c : tie.After-look-at) where
   s = at-start c.before
 
   abbrev P : Problem
-  P = problemOf s.args.t2 s.args.coefficient.now
+  P = problem_of s.args.t2 s.args.coefficient.now
 
   abbrev count : ℕ
   count = s.args.count
@@ -48,7 +48,7 @@ module _ (c : tie.After-look-at) where
   -- the test is that of T4.6
   test-9 :
       lt_z (to_z w64 (of_z w64 s.args.greatest)) (to_z w64 (of_z w64 c.look_at.result))
-      ≡ infeasible P (lookAfter P count)
+      ≡ infeasible P (look_after P count)
   test-9 = (λ k. lt_z (to_z-of_z s.fits.greatest k) (value-is k)) ∙ test-of-run s.pre c.look_at.ensures
 
 returns : tie.Need-returns
@@ -65,10 +65,10 @@ module _ (c : tie.After-larger) where
   abbrev q : tie.After-look-at
   q = else.before
 
-  feasible : infeasible (P q) (lookAfter (P q) (count q)) ≡ false
+  feasible : infeasible (P q) (look_after (P q) (count q)) ≡ false
   feasible = sym (test-9 q) ∙ else.if1.left
 
-  low-is : c.larger.result ≡ lowAfter (P q) (count q)
+  low-is : c.larger.result ≡ low_after (P q) (count q)
   low-is =
       let low_fits : SFits w64 (s q).args.w.low = search rules in
       c.larger.ensures
@@ -76,7 +76,7 @@ module _ (c : tie.After-larger) where
       ∙ low-of-run (s q).pre q.look_at.ensures
 
 returns-2 : tie.Need-returns-2
-unfolding stateIn closed_in
+unfolding state_in closed_in
 returns-2 c =
     let w = (s (q c)).pre.reached.state in
     hands-state (P (q c)) refl (look-passed (P (q c)) (count (q c)) (feasible c)) (λ k. record {

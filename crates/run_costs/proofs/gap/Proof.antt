@@ -9,16 +9,16 @@ use mir.Facts.{to_z-of_z}
 use borrow.Author.Rules.{rules}
 use Rattle.proof_integer.specs.Range.{small_is}
 use Rattle.rules.specs.Notation.{sum_to, at}
-use Rattle.rules.specs.Problem.{Problem, costOf}
+use Rattle.rules.specs.Problem.{Problem, cost_of}
 use Rattle.rules.specs.Run.{gap_of}
 use Rattle.run_sums.specs.SumsFit.{SumFits}
-use Rattle.run_costs.specs.Costs.{costsOnly}
+use Rattle.run_costs.specs.Costs.{costs_only}
 use Rattle.run_costs.proofs.gap.Statement.{statement}
 use Rattle.run_costs.proofs.gap.Tie as tie
 
 module _ (s : tie.Start) where
   abbrev P : Problem
-  P = costsOnly s.args.n s.args.scale s.args.cost.now
+  P = costs_only s.args.n s.args.scale s.args.cost.now
 
   abbrev sums : ℕ → ℤ
   sums = at s.args.sums.now
@@ -55,8 +55,8 @@ module _ (c : tie.After-dot-column-64) where
   abbrev start : tie.Start
   start = c.before.before.before
 
-  cost-is : to_z w64 (of_z w64 c.dot-column-64.result) ≡ costOf (P start) (sums start)
-  unfolding costOf
+  cost-is : to_z w64 (of_z w64 c.dot-column-64.result) ≡ cost_of (P start) (sums start)
+  unfolding cost_of
   cost-is =
       let fits : SFits w64 c.dot-column-64.result = search rules in
       to_z-of_z fits ∙ c.dot-column-64.ensures ∙ +ℤ_idl _ ∙ (λ k. sum_to start.args.n (products start k))

@@ -8,8 +8,8 @@ use mir.Facts.{to_z-of_z}
 use borrow.Author.Rules.{rules}
 use Rattle.proof_integer.specs.Range.{widened, widened_is, small_is}
 use Rattle.rules.specs.Notation.{at}
-use Rattle.rules.specs.Problem.{Problem, costOf}
-use Rattle.run_costs.specs.Costs.{costsOnly}
+use Rattle.rules.specs.Problem.{Problem, cost_of}
+use Rattle.run_costs.specs.Costs.{costs_only}
 use Rattle.run_costs.proofs.scaled_cost.Statement.{statement}
 use Rattle.run_costs.proofs.scaled_cost.Tie as tie
 
@@ -23,7 +23,7 @@ module _ (c : tie.After-dot-32) where
   s = c.before.before
 
   abbrev P : Problem
-  P = costsOnly s.args.n s.args.scale s.args.cost.now
+  P = costs_only s.args.n s.args.scale s.args.cost.now
 
   sum_fits : SFits w32 c.dot-32.result
   sum_fits = search rules
@@ -31,11 +31,11 @@ module _ (c : tie.After-dot-32) where
   scale-is : to_z w64 s.args.scale ≡ pos s.args.scale
   scale-is = small_is w64 {N = 1024} tt s.pre.scale
 
-  sum_is : c.dot-32.result ≡ costOf P (at s.args.amounts.now)
-  unfolding costOf
+  sum_is : c.dot-32.result ≡ cost_of P (at s.args.amounts.now)
+  unfolding cost_of
   sum_is = simp zero-add at c.dot-32.ensures
 
-  scaled-is : pos s.args.scale *ℤ c.dot-32.result ≡ pos s.args.scale *ℤ costOf P (at s.args.amounts.now)
+  scaled-is : pos s.args.scale *ℤ c.dot-32.result ≡ pos s.args.scale *ℤ cost_of P (at s.args.amounts.now)
   scaled-is = λ k. pos s.args.scale *ℤ sum_is k
 
 mul-result : tie.Need-overflow-mul-result

@@ -9,9 +9,9 @@ use mir.Facts.{to_z-of_z}
 use borrow.Author.Rules.{rules}
 use Rattle.proof_integer.specs.Vector.{length-tabulate, at-tabulate}
 use Rattle.rules.specs.Notation.{at}
-use Rattle.rules.specs.Problem.{Problem, costOf}
+use Rattle.rules.specs.Problem.{Problem, cost_of}
 use Rattle.sheet_figures.specs.Padded.{at-padded}
-use Rattle.run_ends.specs.SignedEnds.{materialsOnly, signedEnd}
+use Rattle.run_ends.specs.SignedEnds.{materials_only, signed_end}
 use Rattle.run_costs.proofs.Alike.{same-cost, fits-alike}
 use Rattle.run_costs.proofs.value_at_ends.Statement.{statement}
 use Rattle.run_costs.proofs.value_at_ends.Tie as tie
@@ -26,10 +26,10 @@ module _ (c : tie.After-choose-ends) where
   s = c.before.before
 
   abbrev P : Problem
-  P = materialsOnly s.args.n s.args.scale s.args.cost.now s.args.least.now s.args.most.now
+  P = materials_only s.args.n s.args.scale s.args.cost.now s.args.least.now s.args.most.now
 
   abbrev end : ℕ → ℤ
-  end = signedEnd s.args.sign P
+  end = signed_end s.args.sign P
 
   abbrev chosen : List ℤ
   chosen = c.choose-ends.new.1.1.1.1.1.0
@@ -42,14 +42,14 @@ module _ (c : tie.After-choose-ends) where
       ∙ at-tabulate P.materials end j l)
 
 scaled-cost-requires : tie.Need-scaled-cost-requires
-unfolding costOf
+unfolding cost_of
 scaled-cost-requires c κs =
     let a = c.before in
     let fits = fits-alike (P a) (ends-are a) (s a).requires.cost in
     record { narrow = fits.narrow; scale = fits.scale; sum = fits.sum; scaled = fits.scaled }
 
 returns : tie.Need-returns
-unfolding costOf
+unfolding cost_of
 returns c =
     let a = c.before.before in
     let fits : SFits w64 c.scaled-cost.result = search rules in

@@ -10,19 +10,19 @@ use borrow.Author.Rules.{rules}
 use Rattle.proof_integer.specs.Range.{◌b*◌, bnd-sfits, sfits-bnd, widened, widened_is}
 use Rattle.rules.specs.Problem.{Problem}
 use Rattle.sheet_figures.specs.Padded.{filled, fill_start, fill-next, fill_end}
-use Rattle.run_ends.specs.SignedEnds.{materialsOnly, signedEnd}
+use Rattle.run_ends.specs.SignedEnds.{materials_only, signed_end}
 use Rattle.run_ends.proofs.choose_ends.Statement.{statement}
 use Rattle.run_ends.proofs.choose_ends.Tie as tie
 
 abbrev invariant-loop : tie.invariant-loop
 invariant-loop n sign cost least most ends₀ j₀ ends j =
-    (j ≤ n) × (ends ≡ filled 32 (signedEnd (to_z w64 sign) (materialsOnly n 0 cost least most)) j)
+    (j ≤ n) × (ends ≡ filled 32 (signed_end (to_z w64 sign) (materials_only n 0 cost least most)) j)
 
 abbrev decreases-loop : tie.decreases-loop
 decreases-loop n sign cost least most ends₀ j₀ ends j = n - j
 
 abbrev materials : tie.Start invariant-loop decreases-loop → Problem
-materials s = materialsOnly s.args.n 0 s.args.cost.now s.args.least.now s.args.most.now
+materials s = materials_only s.args.n 0 s.args.cost.now s.args.least.now s.args.most.now
 
 -- in a turn, with the cost read
 module _ (c : tie.After-end-by-arg invariant-loop decreases-loop) where
@@ -52,7 +52,7 @@ module _ (c : tie.After-end-by invariant-loop decreases-loop) where
   abbrev turn : tie.After-end-by-arg invariant-loop decreases-loop
   turn = c.before.before.before
 
-  end_is : to_z w16 (of_z w16 c.end_by.result) ≡ signedEnd (to_z w64 (of_z w64 (s turn).args.sign)) (P turn) (j turn)
+  end_is : to_z w16 (of_z w16 c.end_by.result) ≡ signed_end (to_z w64 (of_z w64 (s turn).args.sign)) (P turn) (j turn)
   end_is =
       let least_fits : SFits w16 ((P turn).least (j turn)) = search rules in
       let most-fits : SFits w16 ((P turn).most (j turn)) = search rules in
@@ -62,7 +62,7 @@ module _ (c : tie.After-end-by invariant-loop decreases-loop) where
       to_z-of_z result_fits
       ∙ (simp (to_z-of_z least_fits, to_z-of_z most-fits, cost-is, sign-is, to_z-of_z (weight-fits turn))
       at c.end_by.ensures)
-      ∙ (λ k. signedEnd (sym sign-is k) (P turn) (j turn))
+      ∙ (λ k. signed_end (sym sign-is k) (P turn) (j turn))
 
 loop-again : tie.Need-loop-preserved invariant-loop decreases-loop
 loop-again c =
@@ -73,7 +73,7 @@ returns : tie.Need-returns invariant-loop decreases-loop
 returns c =
     let s = c.before.before in
     fill_end 32 _ (omega arith) c.before.loop.invariant.1
-    ∙ (λ k. filled 32 (signedEnd (to_z-of_z s.ranges.sign k) (materials s)) s.args.n)
+    ∙ (λ k. filled 32 (signed_end (to_z-of_z s.ranges.sign k) (materials s)) s.args.n)
 
 pub choose-ends-spec : {M : Type 1} → statement M
 choose-ends-spec =

@@ -7,12 +7,12 @@ use mir.Syntax.{w64}
 use mir.Val.{SFits, to_z, of_z}
 use mir.Facts.{to_z-of_z}
 use borrow.Author.Rules.{rules}
-use Rattle.proof_integer.specs.Sum.{sumTo-cong}
+use Rattle.proof_integer.specs.Sum.{sum_to-cong}
 use Rattle.proof_integer.specs.Vector.{length-tabulate, at-tabulate}
 use Rattle.rules.specs.Notation.{sum_to, tabulate, at}
-use Rattle.rules.specs.Problem.{Problem, costOf, load_of}
-use Rattle.rules.specs.Step.{Look, reducedCost, amount, residual, dualValue, lookAt}
-use Rattle.sheet_figures.specs.Figures.{problemIn}
+use Rattle.rules.specs.Problem.{Problem, cost_of, load_of}
+use Rattle.rules.specs.Step.{Look, reduced_cost, amount, residual, dual_value, look_at}
+use Rattle.sheet_figures.specs.Figures.{problem_in}
 use Rattle.sheet_figures.specs.Padded.{padded, at-padded}
 use Rattle.run_sums.specs.SumsFit.{SumFits}
 use Rattle.run_costs.specs.Costs.{CostFits}
@@ -23,7 +23,7 @@ use Rattle.run_look.proofs.look_at.Tie as tie
 module _ (s : tie.Start) where
   abbrev P : Problem
   P =
-      problemIn s.args.n s.args.m 0 s.args.scale
+      problem_in s.args.n s.args.m 0 s.args.scale
       s.args.cost.now s.args.least.now s.args.most.now s.args.coefficient.now s.args.rhs.now
 
   abbrev M : ℕ → ℤ
@@ -31,7 +31,7 @@ module _ (s : tie.Start) where
 
   -- what the look is to be
   abbrev q : Look
-  q = lookAt P M
+  q = look_at P M
 
 -- ---- the amounts
 choose-amounts-requires : tie.Need-choose-amounts-requires
@@ -47,11 +47,11 @@ module _ (c : tie.After-choose-amounts) where
   chosen = c.choose-amounts.new.1.1.1.1.1.1.1.1.0
 
   x-is : chosen ≡ padded 32 (q s).amounts
-  unfolding lookAt amount reducedCost
+  unfolding look_at amount reduced_cost
   x-is = c.choose-amounts.ensures
 
   x-reads : at chosen ≡ at (q s).amounts
-  unfolding lookAt
+  unfolding look_at
   x-reads = (λ k. at (x-is k)) ∙ at-padded 32 (q s).amounts (rw length-tabulate s.pre.amounts-fit.narrow)
 
 -- ---- the residuals
@@ -71,20 +71,20 @@ module _ (c : tie.After-take-residuals) where
   taken = c.take-residuals.new.1.1.1.1.1.0
 
   g-is : taken ≡ padded 16 (q (s at_x)).residuals
-  unfolding lookAt residual load_of
+  unfolding look_at residual load_of
   g-is =
       c.take-residuals.ensures
       ∙ (λ k. padded 16 (tabulate (P (s at_x)).limits (residual (P (s at_x)) (x-reads at_x k))))
 
   g-reads : at taken ≡ at (q (s at_x)).residuals
-  unfolding lookAt
+  unfolding look_at
   g-reads =
       let few = (s at_x).pre.residuals-fit.few in
       (λ k. at (g-is k)) ∙ at-padded 16 (q (s at_x)).residuals (rw length-tabulate few)
 
 -- ---- the dual value
 scaled-cost-requires : tie.Need-scaled-cost-requires
-unfolding costOf
+unfolding cost_of
 scaled-cost-requires c κs =
     let a = at_x c.before in
     let fits = subst (CostFits (P (s a))) (sym (x-reads a)) (s a).pre.cost in
@@ -97,17 +97,17 @@ module _ (c : tie.After-scaled-cost) where
   abbrev s-v : tie.Start
   s-v = s (at_x at_g)
 
-  cost-is : to_z w64 (of_z w64 c.scaled-cost.result) ≡ pos (P s-v).scale *ℤ costOf (P s-v) (at (q s-v).amounts)
-  unfolding costOf
+  cost-is : to_z w64 (of_z w64 c.scaled-cost.result) ≡ pos (P s-v).scale *ℤ cost_of (P s-v) (at (q s-v).amounts)
+  unfolding cost_of
   cost-is =
       let fits : SFits w64 c.scaled-cost.result = search rules in
-      to_z-of_z fits ∙ c.scaled-cost.ensures ∙ (λ k. pos (P s-v).scale *ℤ costOf (P s-v) (x-reads (at_x at_g) k))
+      to_z-of_z fits ∙ c.scaled-cost.ensures ∙ (λ k. pos (P s-v).scale *ℤ cost_of (P s-v) (x-reads (at_x at_g) k))
 
 dot-64-requires : tie.Need-dot-64-requires
 dot-64-requires c κs =
     let a = c.before in
     let s = s-v a in
-    let first = pos (P s).scale *ℤ costOf (P s) (at (q s).amounts) in
+    let first = pos (P s).scale *ℤ cost_of (P s) (at (q s).amounts) in
     rw (cost-is a)
     (record {
       few = s.pre.residuals-fit.few;
@@ -118,14 +118,14 @@ dot-64-requires c κs =
 
 -- from the residuals that the look has worked out
 value_of : (P : Problem) (M : ℕ → ℤ)
-    → pos P.scale *ℤ costOf P (at (lookAt P M).amounts)
-    +ℤ sum_to P.limits (λ i. M i *ℤ at (lookAt P M).residuals i)
-    ≡ (lookAt P M).dualValue
-unfolding lookAt dualValue
+    → pos P.scale *ℤ cost_of P (at (look_at P M).amounts)
+    +ℤ sum_to P.limits (λ i. M i *ℤ at (look_at P M).residuals i)
+    ≡ (look_at P M).dual_value
+unfolding look_at dual_value
 value_of P M =
-    let x = at (lookAt P M).amounts in
-    ap (λ z. pos P.scale *ℤ costOf P x +ℤ z)
-    (sumTo-cong P.limits _ _ (λ i l. ap (λ g. M i *ℤ g) (at-tabulate P.limits (residual P x) i l)))
+    let x = at (look_at P M).amounts in
+    ap (λ z. pos P.scale *ℤ cost_of P x +ℤ z)
+    (sum_to-cong P.limits _ _ (λ i l. ap (λ g. M i *ℤ g) (at-tabulate P.limits (residual P x) i l)))
 
 returns : tie.Need-returns
 returns c =

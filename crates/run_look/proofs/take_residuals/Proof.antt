@@ -11,13 +11,13 @@ use Rattle.rules.specs.Notation.{at}
 use Rattle.rules.specs.Problem.{Problem, load_of}
 use Rattle.rules.specs.Step.{residual}
 use Rattle.sheet_figures.specs.Padded.{filled, fill_start, fill-next, fill_end}
-use Rattle.run_look.specs.Given.{limitsOnly}
+use Rattle.run_look.specs.Given.{limits_only}
 use Rattle.run_look.proofs.take_residuals.Statement.{statement}
 use Rattle.run_look.proofs.take_residuals.Tie as tie
 
 abbrev invariant-loop : tie.invariant-loop
 invariant-loop n m coefficient rhs amounts residuals₀ i₀ residuals i =
-    (i ≤ m) × (residuals ≡ filled 16 (residual (limitsOnly n m coefficient rhs) (at amounts)) i)
+    (i ≤ m) × (residuals ≡ filled 16 (residual (limits_only n m coefficient rhs) (at amounts)) i)
 
 abbrev decreases-loop : tie.decreases-loop
 decreases-loop n m coefficient rhs amounts residuals₀ i₀ residuals i = m - i
@@ -48,7 +48,7 @@ module _ (c : tie.After-residuals invariant-loop decreases-loop) where
   i = loop.loop.i
 
   abbrev P : Problem
-  P = limitsOnly s.args.n s.args.m s.args.coefficient.now s.args.rhs.now
+  P = limits_only s.args.n s.args.m s.args.coefficient.now s.args.rhs.now
 
   abbrev x : ℕ → ℤ
   x = at s.args.amounts.now

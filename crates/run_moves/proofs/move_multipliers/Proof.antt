@@ -15,11 +15,11 @@ use borrow.Author.Rules.{rules}
 use Rattle.proof_integer.specs.Order.{≤ℤ-trans, max-left}
 use Rattle.proof_integer.specs.Range.{bnd-between, bnd-sfits, widened, widened_is, small_is}
 use Rattle.proof_integer.specs.Vector.{at-tabulate}
-use Rattle.rules.specs.Notation.{anyBelow, maxℤ, at}
+use Rattle.rules.specs.Notation.{any_below, maxℤ, at}
 use Rattle.rules.specs.Problem.{Problem}
 use Rattle.rules.specs.Step.{moved, diverged}
 use Rattle.proof_laws.specs.Below.{any-start, any-more, any_found}
-use Rattle.run_moves.specs.Moves.{limitsMoved, tooLarge, places-all, places-found}
+use Rattle.run_moves.specs.Moves.{limits_moved, too_large, places-all, places-found}
 use Rattle.run_totals.specs.Changed.{Changed, changed-start, changed-next, changed-end}
 use Rattle.run_moves.proofs.move_multipliers.Statement.{statement}
 use Rattle.run_moves.proofs.move_multipliers.Tie as tie
@@ -29,11 +29,11 @@ module _ (P : Problem) (old : List ℤ) (g : ℕ → ℤ) where
   abbrev after : ℕ → ℤ
   after = moved P (at old) g
 
-  test_at : (i : ℕ) → i < P.limits → lt_z (pos 1073741824) (after i) ≡ tooLarge P (at old) g i
+  test_at : (i : ℕ) → i < P.limits → lt_z (pos 1073741824) (after i) ≡ too_large P (at old) g i
   test_at i l = ap (lt_z (pos 1073741824)) (sym (at-tabulate P.limits after i l))
 
   -- one that is not too large fits 32 bits
-  move-fits : (i : ℕ) → i < P.limits → tooLarge P (at old) g i ≡ false → SFits w32 (after i)
+  move-fits : (i : ℕ) → i < P.limits → too_large P (at old) g i ≡ false → SFits w32 (after i)
   unfolding moved
   move-fits i l small =
       let top : after i ≤ℤ pos 1073741824 = lt_z_no (subst (λ b. T (not b)) (sym (test_at i l ∙ small)) tt) in
@@ -41,12 +41,12 @@ module _ (P : Problem) (old : List ℤ) (g : ℕ → ℤ) where
 
   record Turn (new : List ℤ) (i : ℕ) : Type 0 where
     within : i ≤ P.limits
-    small : anyBelow i (tooLarge P (at old) g) ≡ false
+    small : any_below i (too_large P (at old) g) ≡ false
     done : Changed i after old new
 
 abbrev invariant-loop : tie.invariant-loop
 invariant-loop m numerator multipliers₀ residuals p i₀ multipliers i =
-    Turn (limitsMoved m numerator) multipliers₀ (at residuals) multipliers i
+    Turn (limits_moved m numerator) multipliers₀ (at residuals) multipliers i
 
 abbrev decreases-loop : tie.decreases-loop
 decreases-loop m numerator multipliers₀ residuals p i₀ multipliers i = m - i
@@ -68,7 +68,7 @@ module _ (c : tie.After-plus-64-arg invariant-loop decreases-loop) where
   i = loop.loop.i
 
   abbrev P : Problem
-  P = limitsMoved s.args.m s.args.numerator
+  P = limits_moved s.args.m s.args.numerator
 
   abbrev M : List ℤ
   M = s.args.multipliers.now
@@ -125,7 +125,7 @@ module _ (c : tie.After-larger invariant-loop decreases-loop) where
 
   test-is :
       lt_z (pos 1073741824) (to_z w64 (of_z w64 c.larger.result))
-      ≡ tooLarge (P turn) (at (M turn)) (g turn) (i turn)
+      ≡ too_large (P turn) (at (M turn)) (g turn) (i turn)
   test-is = ap (lt_z (pos 1073741824)) move-is ∙ test_at (P turn) (M turn) (g turn) (i turn) (here turn)
 
 returns : tie.Need-returns invariant-loop decreases-loop
@@ -135,7 +135,7 @@ returns c =
     let t = turn a in
     let inv = (loop t).loop.inv in
     let large = sym (test-is a) ∙ c.if1.true in
-    let test = tooLarge (P t) (at (M t)) (g t) in
+    let test = too_large (P t) (at (M t)) (g t) in
     record {
       test = sym (any_found test (P t).limits (here t) large);
       places = changed-end (sym (places-found test (P t).limits (here t) inv.small large)) inv.done;
@@ -146,7 +146,7 @@ module _ (c : tie.Else1 invariant-loop decreases-loop) where
   abbrev t : tie.After-plus-64-arg invariant-loop decreases-loop
   t = turn c.before
 
-  small-here : tooLarge (P t) (at (M t)) (g t) (i t) ≡ false
+  small-here : too_large (P t) (at (M t)) (g t) (i t) ≡ false
   small-here = sym (test-is c.before) ∙ c.if1.false
 
   fits-here : SFits w32 (after (P t) (M t) (g t) (i t))

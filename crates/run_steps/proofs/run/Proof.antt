@@ -7,17 +7,17 @@ use mir.Syntax.{w64}
 use mir.Val.{SFits, to_z, of_z}
 use mir.Facts.{to_z-of_z}
 use borrow.Author.Rules.{rules}
-use Rattle.rules.specs.Problem.{Problem, costOf}
-use Rattle.rules.specs.Step.{greatestCost, cheapestCost}
-use Rattle.rules.specs.Run.{startingState, stateAfter}
-use Rattle.rules.specs.Answers.{stepRefusal}
+use Rattle.rules.specs.Problem.{Problem, cost_of}
+use Rattle.rules.specs.Step.{greatest_cost, cheapest_cost}
+use Rattle.rules.specs.Run.{starting_state, state_after}
+use Rattle.rules.specs.Answers.{step_refusal}
 use Rattle.proof_laws.specs.FirstPlace.{first-start}
 use Rattle.sheet_figures.specs.Padded.{padded-zero}
-use Rattle.sheet_figures.specs.Figures.{problemOf}
+use Rattle.sheet_figures.specs.Figures.{problem_of}
 use Rattle.rules.specs.declared.Verdict.TheVariants.{Passed}
 use Rattle.run_step.specs.Reached.{Reached}
 use Rattle.run_costs.specs.OfRun.{greatest-fits, cheapest-fits}
-use Rattle.run_step.specs.States.{stateIn}
+use Rattle.run_step.specs.States.{state_in}
 use Rattle.run_steps.proofs.OneStep.{hands_on, still-going, next-state, hands-closed}
 use Rattle.run_steps.proofs.run.Statement.{statement}
 use Rattle.run_steps.proofs.run.Tie as tie
@@ -63,17 +63,17 @@ module _ (c : tie.After-starts invariant-loop decreases-loop) where
   s = s-greatest found.before
 
   abbrev P : Problem
-  P = problemOf s.args.t1 s.args.coefficient.now
+  P = problem_of s.args.t1 s.args.coefficient.now
 
-  greatest-is : to_z w64 (of_z w64 found.greatest-value.result) ≡ pos P.scale *ℤ greatestCost P
-  unfolding greatestCost costOf
+  greatest-is : to_z w64 (of_z w64 found.greatest-value.result) ≡ pos P.scale *ℤ greatest_cost P
+  unfolding greatest_cost cost_of
   greatest-is =
       let fits : SFits w64 found.greatest-value.result = search rules in
       to_z-of_z fits ∙ found.greatest-value.ensures
 
 -- the multipliers are the starts, every total is 0, and low is D times the cheapest cost
 loop-holds : tie.Need-loop-init invariant-loop decreases-loop
-unfolding stepRefusal stateIn stateAfter startingState cheapestCost costOf
+unfolding step_refusal state_in state_after starting_state cheapest_cost cost_of
 loop-holds c =
     let f = (s c).args.t1 in
     let cheapest = (at-cheapest c).cheapest-value in

@@ -6,14 +6,14 @@ use native.Mathlib.Omega.{arith}
 use lib.ListN.{length}
 use mir.Facts.{to_z-of_z}
 use borrow.Author.Rules.{rules}
-use Rattle.rules.specs.Notation.{anyBelow, at}
+use Rattle.rules.specs.Notation.{any_below, at}
 use Rattle.proof_laws.specs.Below.{any-start, any-more, any_found}
-use Rattle.sheet_arrays.specs.Tested.{outside, anyOutside}
+use Rattle.sheet_arrays.specs.Tested.{outside, any_outside}
 use Rattle.sheet_array_checks.proofs.any_outside.Statement.{statement}
 use Rattle.sheet_array_checks.proofs.any_outside.Tie as tie
 
 abbrev invariant-loop : tie.invariant-loop
-invariant-loop kind figures i₀ i = (i ≤ length figures) × (anyBelow i (λ i. outside kind (at figures i)) ≡ false)
+invariant-loop kind figures i₀ i = (i ≤ length figures) × (any_below i (λ i. outside kind (at figures i)) ≡ false)
 
 abbrev decreases-loop : tie.decreases-loop
 decreases-loop kind figures i₀ i = length figures - i
@@ -35,7 +35,7 @@ module _ (c : tie.After-outside invariant-loop decreases-loop) where
       c.outside.ensures ∙ ap (outside turn.before.args.kind) kept
 
 returns : tie.Need-returns invariant-loop decreases-loop
-unfolding anyOutside
+unfolding any_outside
 returns c =
     let a = c.before in
     let n = length (turn a).before.args.figures.now in
@@ -47,12 +47,12 @@ loop-again c =
     (omega arith, any-more (test a) (turn a).loop.invariant.1 (sym (tested a) ∙ c.if1.false))
 
 returns-2 : tie.Need-returns-2 invariant-loop decreases-loop
-unfolding anyOutside
+unfolding any_outside
 returns-2 c =
     let a = c.before.before.args in
     let all : c.before.loop.i ≡ length a.figures.now = omega arith in
     let none = c.before.loop.invariant.1 in
-    sym (ap (λ (n : ℕ). anyBelow n (λ i. outside a.kind (at a.figures.now i))) (sym all) ∙ none)
+    sym (ap (λ (n : ℕ). any_below n (λ i. outside a.kind (at a.figures.now i))) (sym all) ∙ none)
 
 pub any-outside-spec : {M : Type 1} → statement M
 any-outside-spec =

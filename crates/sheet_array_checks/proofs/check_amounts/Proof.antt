@@ -13,9 +13,9 @@ use mir.Val.{SFits, to_z, of_z}
 use mir.Facts.{to_z-of_z}
 use borrow.Author.Rules.{rules}
 use Rattle.rules.specs.Notation.{at}
-use Rattle.rules.specs.Refusals.{number_of, numbered, refusalOf}
+use Rattle.rules.specs.Refusals.{number_of, numbered, refusal_of}
 use Rattle.proof_laws.specs.FirstPlace.{first-start, first-end, scan, scan-more, scan-found}
-use Rattle.sheet_array_checks.specs.Checks.{amountsRefusal}
+use Rattle.sheet_array_checks.specs.Checks.{amounts_refusal}
 use Rattle.sheet_array_checks.proofs.check_amounts.Statement.{statement}
 use Rattle.sheet_array_checks.proofs.check_amounts.Tie as tie
 
@@ -54,13 +54,13 @@ module _ (c : tie.After-highest invariant-loop decreases-loop) where
       rw (to_z-of_z most, to_z-of_z least) at h
 
 returns : tie.Need-returns invariant-loop decreases-loop
-unfolding refusalOf numbered number_of amountsRefusal
+unfolding refusal_of numbered number_of amounts_refusal
 returns c =
     let taken = c.before in
     let a = taken.before in
     let found = scan-found 7 (above (leasts a) (mosts a)) (length (leasts a)) (omega arith) (turn a).loop.invariant.1
     (test-is a true taken.if1.true) in
-    ap refusalOf c.refused.ensures ∙ sym found
+    ap refusal_of c.refused.ensures ∙ sym found
 
 loop-again : tie.Need-loop-preserved invariant-loop decreases-loop
 loop-again c =
@@ -68,7 +68,7 @@ loop-again c =
     (omega arith, scan-more 7 (above (leasts a) (mosts a)) (turn a).loop.invariant.1 (test-is a false c.if1.false))
 
 returns-2 : tie.Need-returns-2 invariant-loop decreases-loop
-unfolding refusalOf amountsRefusal
+unfolding refusal_of amounts_refusal
 returns-2 c =
     let ended = c.before in
     let all : ended.loop.j ≡ length ended.before.args.least.now = omega arith in

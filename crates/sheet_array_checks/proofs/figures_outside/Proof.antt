@@ -1,12 +1,12 @@
 -- Each array is tested.
 use mathlib.Core.Bool.{◌||◌}
 use borrow.Author.Rules.{rules}
-use Rattle.sheet_arrays.specs.Tested.{arraysOutside}
+use Rattle.sheet_arrays.specs.Tested.{arrays_outside}
 use Rattle.sheet_array_checks.proofs.figures_outside.Statement.{statement}
 use Rattle.sheet_array_checks.proofs.figures_outside.Tie as tie
 
 returns : tie.Need-returns
-unfolding arraysOutside
+unfolding arrays_outside
 returns c =
     let b = c.before in
     let a = b.before in

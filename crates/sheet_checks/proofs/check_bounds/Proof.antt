@@ -12,15 +12,15 @@ use mir.Val.{SFits, to_z, of_z}
 use mir.Facts.{to_z-of_z}
 use borrow.Author.Rules.{rules}
 use Rattle.rules.specs.Notation.{at}
-use Rattle.rules.specs.Refusals.{number_of, numbered, refusalOf, crossed}
-use Rattle.sheet_table.specs.Tabled.{tableIn, table_at}
+use Rattle.rules.specs.Refusals.{number_of, numbered, refusal_of, crossed}
+use Rattle.sheet_table.specs.Tabled.{table_in, table_at}
 use Rattle.proof_laws.specs.FirstPlace.{first-start, first-end, scan, scan-more, scan-found}
-use Rattle.sheet_checks.specs.Bounds.{crossedRefusal}
+use Rattle.sheet_checks.specs.Bounds.{crossed_refusal}
 use Rattle.sheet_checks.proofs.check_bounds.Statement.{statement}
 use Rattle.sheet_checks.proofs.check_bounds.Tie as tie
 
 abbrev invariant-loop : tie.invariant-loop
-invariant-loop n table j₀ j = (j ≤ n) × (scan 7 (crossed (tableIn table)) j ≡ none)
+invariant-loop n table j₀ j = (j ≤ n) × (scan 7 (crossed (table_in table)) j ≡ none)
 
 abbrev decreases-loop : tie.decreases-loop
 decreases-loop n table j₀ j = n - j
@@ -68,7 +68,7 @@ module _ (c : tie.After-most invariant-loop decreases-loop) where
   abbrev turn : tie.In-loop invariant-loop decreases-loop
   turn = at_least.before
 
-  before : scan 7 (crossed (tableIn (table turn))) (j turn) ≡ none
+  before : scan 7 (crossed (table_in (table turn))) (j turn) ≡ none
   before = turn.before.loop.inv.1
 
   in_table : j turn < 34
@@ -76,7 +76,7 @@ module _ (c : tie.After-most invariant-loop decreases-loop) where
 
   test-is : (b : Bool) → lt_z (to_z w32 (of_z w32 (at (table turn) at_most.place-at2.result)))
       (to_z w32 (of_z w32 (at (table turn) at_least.place_at.result))) ≡ b
-      → crossed (tableIn (table turn)) (j turn) ≡ b
+      → crossed (table_in (table turn)) (j turn) ≡ b
   unfolding crossed
   test-is b h =
       let most-fits : SFits w32 (at (table turn) at_most.place-at2.result) = search rules in
@@ -86,21 +86,21 @@ module _ (c : tie.After-most invariant-loop decreases-loop) where
       (λ i. lt_z (most i) (least i)) ∙ (simp (to_z-of_z most-fits, to_z-of_z least_fits) at h)
 
 returns : tie.Need-returns invariant-loop decreases-loop
-unfolding refusalOf numbered number_of crossedRefusal
+unfolding refusal_of numbered number_of crossed_refusal
 returns c =
     let taken = c.before in
     let a = taken.before in
     let above = test-is a true taken.if1.true in
-    ap refusalOf c.refused.ensures
-    ∙ sym (scan-found 7 (crossed (tableIn (table (turn a)))) (n (turn a)) (omega arith) (before a) above)
+    ap refusal_of c.refused.ensures
+    ∙ sym (scan-found 7 (crossed (table_in (table (turn a)))) (n (turn a)) (omega arith) (before a) above)
 
 loop-again : tie.Need-loop-preserved invariant-loop decreases-loop
 loop-again c =
     let a = c.before in
-    (omega arith, scan-more 7 (crossed (tableIn (table (turn a)))) (before a) (test-is a false c.if1.false))
+    (omega arith, scan-more 7 (crossed (table_in (table (turn a)))) (before a) (test-is a false c.if1.false))
 
 returns-2 : tie.Need-returns-2 invariant-loop decreases-loop
-unfolding refusalOf crossedRefusal
+unfolding refusal_of crossed_refusal
 returns-2 c =
     let ended = c.before in
     let all : ended.loop.j ≡ ended.before.args.n = omega arith in

@@ -2,18 +2,18 @@
 use mathlib.Core.Path.{sym, ◌∙◌}
 use borrow.Author.Rules.{rules}
 use borrow.Author.Tests.{lt-ltb, le-ltb}
-use Rattle.rules.specs.Sheet.{headerLength}
+use Rattle.rules.specs.Sheet.{header_length}
 use Rattle.proof_laws.specs.Read.{gives, unless-yes, unless-no}
-use Rattle.sheet_header.specs.Header.{headerAnswered, headerRead}
+use Rattle.sheet_header.specs.Header.{header_answered, header_read}
 use Rattle.sheet_header.proofs.read_header.Statement.{statement}
 use Rattle.sheet_header.proofs.read_header.Tie as tie
 
 returns : tie.Need-returns
-unfolding headerAnswered headerRead headerLength
+unfolding header_answered header_read header_length
 returns c = sym (unless-yes 1 _ (lt-ltb _ _ c.if1.true))
 
 returns-2 : tie.Need-returns-2
-unfolding headerAnswered headerRead headerLength
+unfolding header_answered header_read header_length
 returns-2 c =
     let c5 = c.before in
     let c4 = c5.before in
@@ -29,7 +29,7 @@ returns-2 c =
         steps = c5.size-at5.ensures.is i;
       };
       entries = c.size-at6.ensures.is i;
-      length = headerLength;
+      length = header_length;
     }))
     ∙ sym (unless-no 1 _ (le-ltb _ _ long))
 

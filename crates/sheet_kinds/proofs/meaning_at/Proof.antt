@@ -3,7 +3,7 @@ use mathlib.Core.Path.{◌∙◌}
 use native.Mathlib.Omega.{arith}
 use borrow.Author.Rules.{rules}
 use Rattle.rules.specs.Ranges.{kind_at}
-use Rattle.sheet_kinds.specs.Meaning.{meaningOf}
+use Rattle.sheet_kinds.specs.Meaning.{meaning_of}
 use Rattle.sheet_kinds.proofs.RowKinds.{material-row, limit-row, no_row}
 use Rattle.sheet_kinds.proofs.meaning_at.Statement.{statement}
 use Rattle.sheet_kinds.proofs.meaning_at.Tie as tie
@@ -24,11 +24,11 @@ returns-4 : tie.Need-returns-4
 returns-4 c = c.of-limit.ensures ∙ limit-row _ _ _ (omega arith) (omega arith)
 
 returns-5 : tie.Need-returns-5
-unfolding meaningOf
+unfolding meaning_of
 returns-5 c = no_row _ _ _ (omega arith)
 
 returns-6 : tie.Need-returns-6
-unfolding meaningOf
+unfolding meaning_of
 returns-6 c = no_row _ _ _ (omega arith)
 
 pub meaning-at-spec : {M : Type 1} → statement M

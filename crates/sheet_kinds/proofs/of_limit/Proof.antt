@@ -3,13 +3,13 @@ use Prim.Native.Nat.{◌+◌}
 use native.Mathlib.Omega.{arith}
 use borrow.Author.Tests.{lt-ltb, le-ltb, eq-eqb, ne_eqb}
 use Rattle.rules.specs.Ranges.{kind_at}
-use Rattle.sheet_kinds.specs.Meaning.{meaningOf}
+use Rattle.sheet_kinds.specs.Meaning.{meaning_of}
 use Rattle.proof_laws.specs.Read.{unless}
 use Rattle.sheet_kinds.proofs.of_limit.Statement.{statement}
 use Rattle.sheet_kinds.proofs.of_limit.Tie as tie
 
 returns : tie.Need-returns
-unfolding meaningOf unless kind_at
+unfolding meaning_of unless kind_at
 returns c =
     let a = c.before.args in
     let n = a.shape.materials in
@@ -20,14 +20,14 @@ returns c =
     )
 
 returns-2 : tie.Need-returns-2
-unfolding meaningOf unless kind_at
+unfolding meaning_of unless kind_at
 returns-2 c =
     let a = c.before.before.args in
     let n = a.shape.materials in
     rw (le-ltb (n + 1) a.column (omega arith), eq-eqb a.column n (omega arith))
 
 returns-3 : tie.Need-returns-3
-unfolding meaningOf unless kind_at
+unfolding meaning_of unless kind_at
 returns-3 c =
     let a = c.before.before.args in
     let n = a.shape.materials in
@@ -38,7 +38,7 @@ returns-3 c =
     )
 
 returns-4 : tie.Need-returns-4
-unfolding meaningOf unless
+unfolding meaning_of unless
 returns-4 c =
     let a = c.before.before.args in
     rw (lt-ltb (a.shape.materials + 1) a.column (omega arith))

@@ -4,7 +4,7 @@ use lib.ListN.{length}
 use native.Mathlib.Omega.{arith}
 use borrow.Author.Rules.{rules}
 use Rattle.sheet_arrays.specs.Runs.{Entry}
-use Rattle.sheet_arrays.specs.Listed.{materialEntries, limitsEntries, entriesOf}
+use Rattle.sheet_arrays.specs.Listed.{material_entries, limits_entries, entries_of}
 use Rattle.sheet_put.specs.Put.{EntriesRoom, room-first, room_next, put-more}
 use Rattle.sheet_rows.proofs.put_entries.Statement.{statement}
 use Rattle.sheet_rows.proofs.put_entries.Tie as tie
@@ -12,15 +12,15 @@ use Rattle.sheet_rows.proofs.put_entries.Tie as tie
 module _ (s : tie.Start) where
   abbrev materials : List Entry
   materials =
-      materialEntries s.args.shape.materials s.args.cost.now s.args.least.now s.args.most.now
+      material_entries s.args.shape.materials s.args.cost.now s.args.least.now s.args.most.now
 
   abbrev limits : List Entry
   limits =
-      limitsEntries s.args.shape.materials s.args.a.now s.args.b.now s.args.start.now
+      limits_entries s.args.shape.materials s.args.a.now s.args.b.now s.args.start.now
       s.args.shape.limits
 
   room : EntriesRoom s.args.e 0 (length (materials ++ limits)) s.args.sheet.now
-  unfolding entriesOf
+  unfolding entries_of
   room = s.pre.room
 
 put-materials-requires : tie.Need-put-materials-requires
@@ -31,8 +31,8 @@ put-materials-requires c κs =
       room = room-first (materials s) (limits s) (room s);
       narrow = s.requires.narrow;
       cost = omega (arith, lengths.costs);
-      least = omega (arith, lengths.leastAmounts);
-      most = omega (arith, lengths.mostAmounts);
+      least = omega (arith, lengths.least_amounts);
+      most = omega (arith, lengths.most_amounts);
     }
 
 put-limits-requires : tie.Need-put-limits-requires
@@ -45,12 +45,12 @@ put-limits-requires c κs =
       narrow = s.requires.narrow;
       few = s.requires.few;
       coefficients = omega (arith, lengths.coefficients);
-      rhs = omega (arith, lengths.rightHandSides);
+      rhs = omega (arith, lengths.right_hand_sides);
       start = omega (arith, lengths.starts);
     }
 
 returns : tie.Need-returns
-unfolding entriesOf
+unfolding entries_of
 returns c =
     let all = c.before.before in
     let listed = all.before.before.before.before in

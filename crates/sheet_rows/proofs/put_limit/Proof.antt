@@ -12,7 +12,7 @@ use borrow.Author.Rules.{rules}
 use Rattle.rules.specs.Notation.{at}
 use Rattle.rules.specs.Sheet.{key_of}
 use Rattle.sheet_arrays.specs.Runs.{Entry, entry, run}
-use Rattle.sheet_arrays.specs.Listed.{limitEntries}
+use Rattle.sheet_arrays.specs.Listed.{limit_entries}
 use Rattle.sheet_put.specs.Put.{Put, EntriesRoom, room-first, room_next, put-more}
 use Rattle.sheet_rows.proofs.put_limit.Statement.{statement}
 use Rattle.sheet_rows.proofs.put_limit.Tie as tie
@@ -34,8 +34,8 @@ module _ (s : tie.Start) where
   abbrev start : List Entry
   start = entry (key_of (3 + i) (n + 1)) (at s.args.start.now i)
 
-  parts : limitEntries n s.args.a.now s.args.b.now s.args.start.now i ≡ coefficients ++ rhs ++ start
-  unfolding limitEntries
+  parts : limit_entries n s.args.a.now s.args.b.now s.args.start.now i ≡ coefficients ++ rhs ++ start
+  unfolding limit_entries
   parts = rw add-zero
 
   room : EntriesRoom s.args.e s.args.count (length (coefficients ++ rhs ++ start)) s.args.sheet.now

@@ -7,7 +7,7 @@ use native.Mathlib.Numerals.{add-one}
 use native.Mathlib.Omega.{arith}
 use lib.IntN.{ℤ}
 use lib.ListN.{length}
-use Rattle.sheet_arrays.specs.Listed.{limitEntries, limitsEntries, limits-grow}
+use Rattle.sheet_arrays.specs.Listed.{limit_entries, limits_entries, limits-grow}
 use Rattle.sheet_put.specs.Put.{Put, EntriesRoom, put-none, room-less, room_next, put-more, length-put}
 use Rattle.sheet_rows.specs.Ready.{LimitReady, LimitsReady}
 use Rattle.sheet_rows.proofs.put_limits.Statement.{statement}
@@ -15,18 +15,18 @@ use Rattle.sheet_rows.proofs.put_limits.Tie as tie
 
 record Turn (e count n m : ℕ) (a b s : List ℤ) (d₀ d : List ℕ) (entries i : ℕ) : Type 0 where
   within : i ≤ m
-  put : Put e count (limitsEntries n a b s i) d₀ d entries
+  put : Put e count (limits_entries n a b s i) d₀ d entries
 
 -- ---- limit i, where there is room for all
 module _ {e count n m : ℕ} {a b s : List ℤ} {d₀ d : List ℕ} {entries i : ℕ}
     (ready : LimitsReady e count n m a b s d₀) (turn : Turn e count n m a b s d₀ d entries i) (l : i < m) where
-  with_it : EntriesRoom e count (length (limitsEntries n a b s i ++ limitEntries n a b s i)) d₀
-  unfolding limitsEntries
+  with_it : EntriesRoom e count (length (limits_entries n a b s i ++ limit_entries n a b s i)) d₀
+  unfolding limits_entries
   with_it = room-less _ ready.room (limits-grow n a b s m l)
 
   turn-ready : LimitReady e entries n a b s i d
   turn-ready = record {
-    room = room_next (limitsEntries n a b s i) (limitEntries n a b s i) with_it turn.put;
+    room = room_next (limits_entries n a b s i) (limit_entries n a b s i) with_it turn.put;
     narrow = ready.narrow;
     few = omega (arith, ready.few);
     coefficients = omega (arith, mul-suc n i, mul-le-mul_left n l, ready.coefficients);
@@ -34,12 +34,12 @@ module _ {e count n m : ℕ} {a b s : List ℤ} {d₀ d : List ℕ} {entries i :
     start = omega (arith, ready.start);
   }
 
-  turn_more : {d' : List ℕ} {r : ℕ} → Put e entries (limitEntries n a b s i) d d' r
+  turn_more : {d' : List ℕ} {r : ℕ} → Put e entries (limit_entries n a b s i) d d' r
       → Turn e count n m a b s d₀ d' r (i + 1)
-  unfolding limitsEntries
+  unfolding limits_entries
   turn_more h = rw add-one (record {
     within = l;
-    put = put-more (limitsEntries n a b s i) (limitEntries n a b s i) with_it turn.put h;
+    put = put-more (limits_entries n a b s i) (limit_entries n a b s i) with_it turn.put h;
   })
 
 abbrev invariant-loop : tie.invariant-loop
@@ -49,7 +49,7 @@ abbrev decreases-loop : tie.decreases-loop
 decreases-loop sheet₀ e count n m a b start entries₀ i₀ sheet entries i = m - i
 
 loop-holds : tie.Need-loop-init invariant-loop decreases-loop
-unfolding limitsEntries
+unfolding limits_entries
 loop-holds c = record { within = omega arith; put = put-none _ _ _ }
 
 put-limit-requires : tie.Need-put-limit-requires invariant-loop decreases-loop

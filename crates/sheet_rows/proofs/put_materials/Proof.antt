@@ -9,7 +9,7 @@ use lib.ListN.{length}
 use borrow.Author.Rules.{rules}
 use Rattle.rules.specs.Notation.{at}
 use Rattle.sheet_arrays.specs.Runs.{Entry, run, run-cong}
-use Rattle.sheet_arrays.specs.Listed.{materialEntries}
+use Rattle.sheet_arrays.specs.Listed.{material_entries}
 use Rattle.sheet_put.specs.Put.{Put, EntriesRoom, room-first, room_next, put-more}
 use Rattle.sheet_rows.proofs.put_materials.Statement.{statement}
 use Rattle.sheet_rows.proofs.put_materials.Tie as tie
@@ -35,8 +35,8 @@ module _ (s : tie.Start) where
   abbrev mosts : List Entry
   mosts = whole 128 n s.args.most.now
 
-  parts : materialEntries n s.args.cost.now s.args.least.now s.args.most.now ≡ costs ++ leasts ++ mosts
-  unfolding materialEntries
+  parts : material_entries n s.args.cost.now s.args.least.now s.args.most.now ≡ costs ++ leasts ++ mosts
+  unfolding material_entries
   parts = λ t.
       whole_is 0 n s.args.cost.now t
       ++ whole_is 64 n s.args.least.now t

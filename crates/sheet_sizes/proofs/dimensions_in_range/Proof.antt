@@ -7,14 +7,14 @@ use lib.Dec.{leb}
 use borrow.Author.Rules.{rules}
 use borrow.Author.Tests.{le-leb, leb-true}
 use Rattle.rules.specs.declared.Shape.{Shape}
-use Rattle.rules.specs.Ranges.{between, mostEntries, largest, dimensionsInRange}
+use Rattle.rules.specs.Ranges.{between, most_entries, largest, dimensions_in_range}
 use Rattle.proof_laws.specs.Sizes.{few-entries}
 use Rattle.sheet_sizes.proofs.dimensions_in_range.Statement.{statement}
 use Rattle.sheet_sizes.proofs.dimensions_in_range.Tie as tie
 
 -- n and m in their ranges leave so few entries that no sum wraps
 few : (shape : Shape) → (between 1 32 shape.materials && between 0 16 shape.limits) ≡ true
-    → mostEntries shape ≤ mostEntries largest
+    → most_entries shape ≤ most_entries largest
 unfolding between
 few shape h =
     let both = simp and-eq-true_iff at h in
@@ -40,13 +40,13 @@ add-result-2 : tie.Need-overflow-add-result-2
 add-result-2 c = omega (arith, few (asked c) (passed c))
 
 returns : tie.Need-returns
-unfolding dimensionsInRange between
+unfolding dimensions_in_range between
 returns c =
     let e = c.before.before.before.args.e in
     rw (passed c, le-leb 0 e zero-le) (ap (leb e) (omega arith))
 
 returns-2 : tie.Need-returns-2
-unfolding dimensionsInRange
+unfolding dimensions_in_range
 returns-2 c = rw (← c.before.before.between.ensures, ← c.before.between2.ensures, c.if1.false)
 
 pub dimensions-in-range-spec : {M : Type 1} → statement M

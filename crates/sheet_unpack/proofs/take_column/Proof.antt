@@ -13,14 +13,14 @@ use mir.Facts.{to_z-of_z}
 use borrow.Author.Rules.{rules}
 use Rattle.rules.specs.Notation.{at}
 use Rattle.rules.specs.Sheet.{key_of}
-use Rattle.sheet_table.specs.Tabled.{InTable, tableIn, table_at, place-below}
+use Rattle.sheet_table.specs.Tabled.{InTable, table_in, table_at, place-below}
 use Rattle.sheet_figures.specs.Put.{put}
 use Rattle.sheet_unpack.proofs.take_column.Statement.{statement}
 use Rattle.sheet_unpack.proofs.take_column.Tie as tie
 
 -- figure i of the column
 abbrev figure : List ℤ → ℕ → ℕ → ℤ
-figure table column i = tableIn table (key_of (3 + i) column)
+figure table column i = table_in table (key_of (3 + i) column)
 
 abbrev invariant-loop : tie.invariant-loop
 invariant-loop table column m to₀ i₀ to i = (i ≤ m) × (to ≡ put to₀ 0 i (figure table column))

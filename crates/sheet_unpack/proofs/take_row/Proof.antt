@@ -12,14 +12,14 @@ use mir.Facts.{to_z-of_z}
 use borrow.Author.Rules.{rules}
 use Rattle.rules.specs.Notation.{at}
 use Rattle.rules.specs.Sheet.{key_of}
-use Rattle.sheet_table.specs.Tabled.{placeAt, tableIn, table_at}
+use Rattle.sheet_table.specs.Tabled.{place_at, table_in, table_at}
 use Rattle.sheet_figures.specs.Put.{put, length-put}
 use Rattle.sheet_unpack.proofs.take_row.Statement.{statement}
 use Rattle.sheet_unpack.proofs.take_row.Tie as tie
 
 -- figure j of the row
 abbrev figure : List ℤ → ℕ → ℕ → ℤ
-figure table row j = tableIn table (key_of row j)
+figure table row j = table_in table (key_of row j)
 
 abbrev invariant-loop : tie.invariant-loop
 invariant-loop table row n to₀ from place j₀ to j = (j ≤ n) × (to ≡ put to₀ from j (figure table row))
@@ -52,10 +52,10 @@ module _ (c : tie.In-loop invariant-loop decreases-loop) where
   abbrev j : ℕ
   j = c.before.loop.j
 
-  place_is : c.before.before.place_at.result + j ≡ placeAt row j
+  place_is : c.before.before.place_at.result + j ≡ place_at row j
   place_is = omega (arith, c.before.before.place_at.ensures)
 
-  inside : placeAt row j < 646
+  inside : place_at row j < 646
   inside = omega (arith, start.pre.row_in, start.pre.narrow)
 
   figure-is : at table (c.before.before.place_at.result + j) ≡ figure table row j

@@ -8,23 +8,23 @@ use lib.IntN.{ℤ}
 use lib.ListN.{length}
 use borrow.Author.Rules.{rules}
 use Rattle.rules.specs.Sheet.{key_of}
-use Rattle.sheet_table.specs.Tabled.{tableIn}
-use Rattle.sheet_figures.specs.Put.{put, putRows}
+use Rattle.sheet_table.specs.Tabled.{table_in}
+use Rattle.sheet_figures.specs.Put.{put, put_rows}
 use Rattle.sheet_unpack.proofs.take_rows.Statement.{statement}
 use Rattle.sheet_unpack.proofs.take_rows.Tie as tie
 
 -- figure j of the row of limit i
 abbrev figure : List ℤ → ℕ → ℕ → ℤ
-figure table i j = tableIn table (key_of (3 + i) j)
+figure table i j = table_in table (key_of (3 + i) j)
 
 abbrev invariant-loop : tie.invariant-loop
-invariant-loop table n m to₀ i₀ to i = (i ≤ m) × (to ≡ putRows to₀ i n (figure table))
+invariant-loop table n m to₀ i₀ to i = (i ≤ m) × (to ≡ put_rows to₀ i n (figure table))
 
 abbrev decreases-loop : tie.decreases-loop
 decreases-loop table n m to₀ i₀ to i = m - i
 
 loop-holds : tie.Need-loop-init invariant-loop decreases-loop
-unfolding putRows
+unfolding put_rows
 loop-holds c = (omega arith, refl)
 
 take-row-requires : tie.Need-take-row-requires invariant-loop decreases-loop
@@ -40,7 +40,7 @@ take-row-requires c κs =
     }
 
 loop-again : tie.Need-loop-preserved invariant-loop decreases-loop
-unfolding putRows
+unfolding put_rows
 loop-again c =
     let turn = c.before.before in
     let a = turn.before.before.args in
@@ -55,7 +55,7 @@ returns c =
     let ended = c.before in
     let a = ended.before.args in
     let all : ended.loop.i ≡ a.m = omega arith in
-    ended.loop.invariant.1 ∙ ap (λ m. putRows a.to.now m a.n (figure a.table.now)) all
+    ended.loop.invariant.1 ∙ ap (λ m. put_rows a.to.now m a.n (figure a.table.now)) all
 
 pub take-rows-spec : {M : Type 1} → statement M
 take-rows-spec =

@@ -10,12 +10,12 @@ use mir.Syntax.{w16}
 use mir.Val.{SFits}
 use borrow.Author.Rules.{rules}
 use Rattle.rules.specs.Problem.{Problem}
-use Rattle.rules.specs.Sheet.{key_of, problemFrom}
+use Rattle.rules.specs.Sheet.{key_of, problem_from}
 use Rattle.proof_integer.specs.Order.{≤ℤ-trans}
 use Rattle.proof_integer.specs.Range.{bnd-between, bnd-sfits}
 use Rattle.proof_magnitudes.specs.Accepted.{Accepted}
-use Rattle.sheet_table.specs.Tabled.{tableIn}
-use Rattle.sheet_figures.specs.Figures.{array, figuresOf, coefficientsOver}
+use Rattle.sheet_table.specs.Tabled.{table_in}
+use Rattle.sheet_figures.specs.Figures.{array, figures_of, coefficients_over}
 use Rattle.sheet_unpack.specs.Unpacked.{RowFits}
 use Rattle.sheet_unpack.proofs.unpack.Statement.{statement}
 use Rattle.sheet_unpack.proofs.unpack.Tie as tie
@@ -41,16 +41,16 @@ module _ {P : Problem} {k : ℕ} (a : Accepted P k) where
 -- ---- the table that is unpacked, and its problem
 module _ (s : tie.Start) where
   abbrev P : Problem
-  P = problemFrom s.args.sizes (tableIn s.args.table.now)
+  P = problem_from s.args.sizes (table_in s.args.table.now)
 
   abbrev a : Accepted P s.args.sizes.steps
   a = s.pre
 
   -- a row of materials goes to an array of 32 places
   row-asks : (row : ℕ) (to : List ℤ) → row < 19 → length to ≡ 32
-      → ((j : ℕ) → j < P.materials → SFits w16 (tableIn s.args.table.now (key_of row j)))
+      → ((j : ℕ) → j < P.materials → SFits w16 (table_in s.args.table.now (key_of row j)))
       → RowFits s.args.table.now row P.materials to 0
-  unfolding problemFrom
+  unfolding problem_from
   row-asks row to in_table room fits = record {
     row_in = in_table;
     narrow = a.materials-few;
@@ -75,49 +75,49 @@ abbrev at-start : tie.After-take-row → tie.Start
 at-start c = c.before.before.before
 
 take-row-requires : tie.Need-take-row-requires
-unfolding problemFrom
+unfolding problem_from
 take-row-requires c κs =
     let s = c.before.before in
     row-asks s 0 _ (omega arith) (length-replicate 32 (pos 0)) (cost-fits (a s))
 
 take-row-requires-2 : tie.Need-take-row-requires-2
-unfolding problemFrom
+unfolding problem_from
 take-row-requires-2 c κs =
     let s = at-start c.before.before in
     row-asks s 1 _ (omega arith) (length-replicate 32 (pos 0)) (least_fits (a s))
 
 take-row-requires-3 : tie.Need-take-row-requires-3
-unfolding problemFrom
+unfolding problem_from
 take-row-requires-3 c κs =
     let s = at-start (at-cost c.before.before) in
     row-asks s 2 _ (omega arith) (length-replicate 32 (pos 0)) (most-fits (a s))
 
 take-rows-requires : tie.Need-take-rows-requires
-unfolding problemFrom
+unfolding problem_from
 take-rows-requires c κs =
     let s = at-start (at-cost (at_least c.before.before)) in
     record { few = (a s).limits-few; narrow = (a s).materials-few; fits = coefficient-fits (a s) }
 
 take-column-requires : tie.Need-take-column-requires
-unfolding problemFrom
+unfolding problem_from
 take-column-requires c κs =
     let s = at-start (at-cost (at_least (at_most c.before))) in
     record { few = (a s).limits-few; column-in = omega (arith, (a s).materials-few) }
 
 next-column : tie.Need-overflow-add-take-column
-unfolding problemFrom
+unfolding problem_from
 next-column c =
     let s = at-start (at-cost (at_least (at_most (at_rows c)))) in
     record { fits = omega (arith, (a s).materials-few) }
 
 take-column-requires-2 : tie.Need-take-column-requires-2
-unfolding problemFrom
+unfolding problem_from
 take-column-requires-2 c κs =
     let s = at-start (at-cost (at_least (at_most (at_rows c.before)))) in
     record { few = (a s).limits-few; column-in = omega (arith, (a s).materials-few) }
 
 returns : tie.Need-returns
-unfolding problemFrom figuresOf coefficientsOver array
+unfolding problem_from figures_of coefficients_over array
 returns c =
     let column = c.before.before in
     let rows = at_rows column in

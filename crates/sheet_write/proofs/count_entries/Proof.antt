@@ -3,15 +3,15 @@ use mathlib.Core.Path.{◌≡◌}
 use Prim.Native.Nat.{◌+◌, ◌≤◌}
 use native.Mathlib.Omega.{arith}
 use borrow.Author.Rules.{rules}
-use Rattle.rules_arrays.specs.ReadBack.{presentIn, figuresPresent}
+use Rattle.rules_arrays.specs.ReadBack.{present_in, figures_present}
 use Rattle.sheet_write.proofs.count_entries.Statement.{statement}
 use Rattle.sheet_write.proofs.count_entries.Tie as tie
 
 -- all counts together are few
 few : (s : tie.Start) → let a = s.args in
-    presentIn a.cost.now + presentIn a.least.now + presentIn a.most.now + presentIn a.a.now
-    + presentIn a.b.now + presentIn a.start.now ≤ 640
-unfolding figuresPresent
+    present_in a.cost.now + present_in a.least.now + present_in a.most.now + present_in a.a.now
+    + present_in a.b.now + present_in a.start.now ≤ 640
+unfolding figures_present
 few s = s.requires.short
 
 add-materials : tie.Need-overflow-add-materials
@@ -25,7 +25,7 @@ module _ (c : tie.After-present-in3) where
   start = c.before.before.before
 
   materials : c.before.before.present-in.result + c.before.present-in2.result + c.present-in3.result
-      ≡ presentIn start.args.cost.now + presentIn start.args.least.now + presentIn start.args.most.now
+      ≡ present_in start.args.cost.now + present_in start.args.least.now + present_in start.args.most.now
   materials = λ t.
       c.before.before.present-in.ensures t + c.before.present-in2.ensures t + c.present-in3.ensures t
 
@@ -56,7 +56,7 @@ add-result-3 c =
     }
 
 returns : tie.Need-returns
-unfolding figuresPresent
+unfolding figures_present
 returns c = λ t. materials c.before.before.before t + c.before.before.present-in4.ensures t
     + c.before.present-in5.ensures t + c.present-in6.ensures t
 

@@ -4,9 +4,9 @@ use native.Mathlib.Omega.{arith}
 use lib.ListN.{length}
 use borrow.Author.Rules.{rules}
 use Rattle.rules_arrays.specs.Arrays.{Arrays, arrays}
-use Rattle.bytes_write.specs.Written.{writtenAt}
-use Rattle.sheet_arrays.specs.Listed.{entriesOf}
-use Rattle.sheet_put.specs.Put.{putEntries}
+use Rattle.bytes_write.specs.Written.{written_at}
+use Rattle.sheet_arrays.specs.Listed.{entries_of}
+use Rattle.sheet_put.specs.Put.{put_entries}
 use Rattle.sheet_write.specs.Whole.{all-entries, sizes-fit, sheet-put}
 use Rattle.sheet_write.proofs.put_sheet.Statement.{statement}
 use Rattle.sheet_write.proofs.put_sheet.Tie as tie
@@ -17,7 +17,7 @@ A s =
     s.args.start.now
 
 put-entries-requires : tie.Need-put-entries-requires
-unfolding writtenAt
+unfolding written_at
 put-entries-requires c κs =
     let sized = c.before.before.before in
     let s = sized.before.before.before.before in
@@ -37,7 +37,7 @@ returns c =
     let sized = listed.before.before.before.before in
     let s = sized.before.before.before.before in
     listed.put_entries.ensures
-    ∙ ap (putEntries s.args.e 0 (entriesOf s.args.sizes.shape (A s))) sized.put-sizes.ensures
+    ∙ ap (put_entries s.args.e 0 (entries_of s.args.sizes.shape (A s))) sized.put-sizes.ensures
     ∙ sheet-put s.args.sizes (A s) s.args.sheet.now s.requires
 
 pub put-sheet-spec : {M : Type 1} → statement M

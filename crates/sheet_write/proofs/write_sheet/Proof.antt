@@ -6,9 +6,9 @@ use native.Mathlib.Omega.{arith}
 use borrow.Author.Rules.{rules}
 use lib.ListN.{length}
 use Rattle.rules.specs.declared.Sizes.{Sizes}
-use Rattle.rules.specs.Refusals.{numbered, number_of, refusalOf}
-use Rattle.rules.specs.Output.{shortBuffer}
-use Rattle.rules_arrays.specs.Arrays.{Arrays, sheetFrom, writeRefusal, arrays, arraysRefusal}
+use Rattle.rules.specs.Refusals.{numbered, number_of, refusal_of}
+use Rattle.rules.specs.Output.{short_buffer}
+use Rattle.rules_arrays.specs.Arrays.{Arrays, sheet_from, write_refusal, arrays, arrays_refusal}
 use Rattle.proof_laws.specs.FirstPlace.{given, handed-on}
 use Rattle.proof_laws.specs.Outputs.{writes-refused, writes-all, too_short, long-enough}
 use Rattle.bytes_write.specs.Written.{written}
@@ -30,9 +30,9 @@ module _ (c : tie.After-enum-told) where
   abbrev s : tie.Start
   s = c.before.before.before.before
 
-  accepted : arraysRefusal (z s) (A s) ≡ none
-  unfolding refusalOf
-  accepted = sym c.before.before.check-arrays.ensures ∙ ap refusalOf c.enum_told.given.1
+  accepted : arrays_refusal (z s) (A s) ≡ none
+  unfolding refusal_of
+  accepted = sym c.before.before.check-arrays.ensures ∙ ap refusal_of c.enum_told.given.1
 
 count-entries-requires : tie.Need-count-entries-requires
 count-entries-requires c κs = record { short = few-present (z (s c)) (A (s c)) (accepted c) }
@@ -45,14 +45,14 @@ module _ (c : tie.After-count-entries) where
   few : c.count_entries.result ≤ 640
   few = omega (arith, c.count_entries.ensures, few-present (z (s told)) (A (s told)) (accepted told))
 
-  wanted : length (sheetFrom (z (s told)) (A (s told))) ≡ 12 + 6 * c.count_entries.result
+  wanted : length (sheet_from (z (s told)) (A (s told))) ≡ 12 + 6 * c.count_entries.result
   wanted =
       wanted-is (z (s told)) (A (s told)) (accepted told)
       ∙ ap (λ (e : ℕ). 12 + 6 * e) (sym c.count_entries.ensures)
 
-  refusal_is : writeRefusal (z (s told)) (A (s told)) (length (s told).args.sheet.now)
-      ≡ shortBuffer 8 (sheetFrom (z (s told)) (A (s told))) (length (s told).args.sheet.now)
-  unfolding writeRefusal
+  refusal_is : write_refusal (z (s told)) (A (s told)) (length (s told).args.sheet.now)
+      ≡ short_buffer 8 (sheet_from (z (s told)) (A (s told))) (length (s told).args.sheet.now)
+  unfolding write_refusal
   refusal_is = handed-on _ (accepted told)
 
 mul-wanted : tie.Need-overflow-mul-wanted
@@ -68,7 +68,7 @@ returns c =
     let counted = c.before in
     let t = told counted in
     writes-refused _
-    (refusal_is counted ∙ too_short 8 (sheetFrom (z (s t)) (A (s t))) (wanted counted) (omega arith))
+    (refusal_is counted ∙ too_short 8 (sheet_from (z (s t)) (A (s t))) (wanted counted) (omega arith))
 
 -- ---- it is long enough
 put-sheet-requires : tie.Need-put-sheet-requires
@@ -91,18 +91,18 @@ returns-3 c =
     let counted = put.before.before.before in
     let t = told counted in
     writes-all
-    (refusal_is counted ∙ long-enough 8 (sheetFrom (z (s t)) (A (s t))) (wanted counted) (omega arith))
+    (refusal_is counted ∙ long-enough 8 (sheet_from (z (s t)) (A (s t))) (wanted counted) (omega arith))
     (sym (wanted counted))
     put.put-sheet.ensures
 
 -- ---- the figures are refused
 returns-2 : tie.Need-returns-2
-unfolding refusalOf writeRefusal
+unfolding refusal_of write_refusal
 returns-2 c =
     let refused = c.before in
     let tested = refused.before.before in
     writes-refused _
-    (given _ (sym tested.check-arrays.ensures ∙ ap refusalOf refused.verdict.given.1))
+    (given _ (sym tested.check-arrays.ensures ∙ ap refusal_of refused.verdict.given.1))
 
 pub write-sheet-spec : {M : Type 1} → statement M
 write-sheet-spec =

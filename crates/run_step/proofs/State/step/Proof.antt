@@ -12,17 +12,17 @@ use borrow.Author.Rules.{rules}
 use Rattle.rules.specs.Notation.{maxℤ, tabulate, at}
 use Rattle.rules.specs.Problem.{Problem}
 use Rattle.rules.specs.Step.{infeasible, moved, next, diverged}
-use Rattle.rules.specs.Run.{stateAfter, lookAfter}
+use Rattle.rules.specs.Run.{state_after, look_after}
 use Rattle.rules.specs.Refusals.{number_of, numbered}
 use Rattle.proof_magnitudes.specs.Accepted.{Accepted}
 use Rattle.proof_magnitudes.specs.Steps.{entering, amounts, residuals, low-handed-on}
 use Rattle.sheet_figures.specs.declared.Figures.{Figures}
 use Rattle.sheet_figures.specs.Padded.{padded}
-use Rattle.sheet_figures.specs.Figures.{problemOf}
-use Rattle.run_moves.specs.Moves.{limitsMoved, MoveFits, places-all}
+use Rattle.sheet_figures.specs.Figures.{problem_of}
+use Rattle.run_moves.specs.Moves.{limits_moved, MoveFits, places-all}
 use Rattle.run_totals.specs.Totals.{TotalsFit}
 use Rattle.run_totals.specs.Changed.{changed-end}
-use Rattle.run_step.specs.States.{stateIn}
+use Rattle.run_step.specs.States.{state_in}
 use Rattle.run_step.specs.Reads.{sums-read, totals-read}
 use Rattle.run_step.specs.Reads.{multipliers-changed, sums-changed, totals-changed}
 use Rattle.run_step.specs.Fitting.{move-fits, sums-fit, totals-fit}
@@ -41,7 +41,7 @@ module _ (s : tie.Start) where
   a = s.args.coefficient.now
 
   abbrev P : Problem
-  P = problemOf f a
+  P = problem_of f a
 
   abbrev t : ℕ
   t = s.args.t
@@ -49,18 +49,18 @@ module _ (s : tie.Start) where
   accepted : Accepted P f.steps
   accepted = s.pre.reached.accepted
 
-  state-is : s.args.self ≡ stateIn (stateAfter P t)
+  state-is : s.args.self ≡ state_in (state_after P t)
   state-is = s.pre.reached.state
 
   M-is : at s.args.self.multipliers ≡ entering P t
   M-is = multipliers-enter s.pre
 
-  sums-are : at s.args.self.sums ≡ at (stateAfter P t).sums
-  unfolding stateIn
+  sums-are : at s.args.self.sums ≡ at (state_after P t).sums
+  unfolding state_in
   sums-are = sums-read accepted t (λ k. (state-is k).sums)
 
-  totals-are : at s.args.self.totals ≡ at (stateAfter P t).residualTotals
-  unfolding stateIn
+  totals-are : at s.args.self.totals ≡ at (state_after P t).residual_totals
+  unfolding state_in
   totals-are = totals-read accepted t (λ k. (state-is k).totals)
 
 -- ---- the look, and its arguments: the least amounts are lent, and later w
@@ -99,7 +99,7 @@ module _ (c : tie.After-look-at) where
   -- the test is that of T4.6
   test-9 :
       lt_z (to_z w64 (of_z w64 s-q.args.greatest)) (to_z w64 (of_z w64 c.look_at.result))
-      ≡ infeasible (P s-q) (lookAfter (P s-q) (t s-q))
+      ≡ infeasible (P s-q) (look_after (P s-q) (t s-q))
   test-9 =
       (λ k. lt_z (to_z-of_z s-q.fits.greatest k) (value-is k)) ∙ test-of-run s-q.pre c.look_at.ensures
 
@@ -119,7 +119,7 @@ move-multipliers-requires : tie.Need-move-multipliers-requires
 move-multipliers-requires c κs =
     let q = q-move c in
     let s = s-q q in
-    transport (λ k. MoveFits (limitsMoved (f s).limits (f s).numerator) (sym (M-is s) k) (sym (g-reads q) k))
+    transport (λ k. MoveFits (limits_moved (f s).limits (f s).numerator) (sym (M-is s) k) (sym (g-reads q) k))
     (move-fits (f s) (a s) (accepted s) (t s) (large s.pre))
 
 module _ (c : tie.After-move-multipliers) where
@@ -129,17 +129,17 @@ module _ (c : tie.After-move-multipliers) where
   abbrev s-m : tie.Start
   s-m = s-q at-q
 
-  feasible : infeasible (P s-m) (lookAfter (P s-m) (t s-m)) ≡ false
+  feasible : infeasible (P s-m) (look_after (P s-m) (t s-m)) ≡ false
   feasible = sym (test-9 at-q) ∙ c.before.before.before.if1.false
 
   -- the multipliers after the step, as the code moves them
   moves-are : tabulate (P s-m).limits (moved (P s-m) (at s-m.args.self.multipliers) (at (g at-q)))
-      ≡ (stateAfter (P s-m) (suc (t s-m))).multipliers
-  unfolding stateAfter next lookAfter
+      ≡ (state_after (P s-m) (suc (t s-m))).multipliers
+  unfolding state_after next look_after
   moves-are = λ k. tabulate (P s-m).limits (moved (P s-m) (M-is s-m k) (g-reads at-q k))
 
   -- the test is that of T4.8
-  test-10 : c.move-multipliers.result ≡ diverged (P s-m) (stateAfter (P s-m) (suc (t s-m))).multipliers
+  test-10 : c.move-multipliers.result ≡ diverged (P s-m) (state_after (P s-m) (suc (t s-m))).multipliers
   unfolding diverged moved
   test-10 = c.move-multipliers.ensures.test ∙ (λ k. diverged (P s-m) (moves-are k))
 
@@ -162,7 +162,7 @@ module _ (c : tie.Else2) where
   abbrev s-e : tie.Start
   s-e = s-m at-m
 
-  converges : diverged (P s-e) (stateAfter (P s-e) (suc (t s-e))).multipliers ≡ false
+  converges : diverged (P s-e) (state_after (P s-e) (suc (t s-e))).multipliers ≡ false
   converges = sym (test-10 at-m) ∙ c.if2.false
 
 -- no multiplier diverged, and then the sums are added to
@@ -205,8 +205,8 @@ module _ (c : tie.After-larger) where
 
   -- no multiplier diverged, so all are moved
   multipliers-are :
-      (at-m going).move-multipliers.last.1.1.0 ≡ padded 16 (stateAfter (P s-l) (suc (t s-l))).multipliers
-  unfolding stateIn diverged moved
+      (at-m going).move-multipliers.last.1.1.0 ≡ padded 16 (state_after (P s-l) (suc (t s-l))).multipliers
+  unfolding state_in diverged moved
   multipliers-are =
       let move = (at-m going).move-multipliers.ensures in
       let none = sym move.test ∙ going.if2.left in
@@ -214,19 +214,19 @@ module _ (c : tie.After-larger) where
       (changed-end (places-all _ (f s-l).limits none) move.places)
       ∙ (λ k. padded 16 (moves-are (at-m going) k))
 
-  sums-after : sums-of.add-amounts.last.1.0 ≡ padded 32 (stateAfter (P s-l) (suc (t s-l))).sums
-  unfolding stateIn stateAfter next lookAfter
+  sums-after : sums-of.add-amounts.last.1.0 ≡ padded 32 (state_after (P s-l) (suc (t s-l))).sums
+  unfolding state_in state_after next look_after
   sums-after =
       sums-changed (accepted s-l) (t s-l) (λ k. (state-is s-l k).sums) sums-of.add-amounts.ensures
       ∙ (λ k. padded 32 (tabulate (P s-l).materials (λ j. sums-are s-l k j +ℤ x-reads q-l k j)))
 
-  totals-after : totals-of.add-residuals.last.1.0 ≡ padded 16 (stateAfter (P s-l) (suc (t s-l))).residualTotals
-  unfolding stateIn stateAfter next lookAfter
+  totals-after : totals-of.add-residuals.last.1.0 ≡ padded 16 (state_after (P s-l) (suc (t s-l))).residual_totals
+  unfolding state_in state_after next look_after
   totals-after =
       totals-changed (accepted s-l) (t s-l) (λ k. (state-is s-l k).totals) totals-of.add-residuals.ensures
       ∙ (λ k. padded 16 (tabulate (P s-l).limits (λ i. totals-are s-l k i +ℤ g-reads q-l k i)))
 
-  low-is : to_z w64 (of_z w64 c.larger.result) ≡ (stateAfter (P s-l) (suc (t s-l))).lowerBound
+  low-is : to_z w64 (of_z w64 c.larger.result) ≡ (state_after (P s-l) (suc (t s-l))).lower_bound
   low-is =
       let low_fits : SFits w64 s-l.args.self.low = search rules in
       let fits : SFits w64 c.larger.result = search rules in
@@ -237,7 +237,7 @@ module _ (c : tie.After-larger) where
       ∙ low-handed-on (P s-l) (t s-l)
 
 returns-3 : tie.Need-returns-3
-unfolding stateIn
+unfolding state_in
 returns-3 c =
     let s = s-l c in
     hands-state (P s) refl (not-refused (P s) (t s) (feasible (at-m (going c))) (converges (going c)))
