@@ -26,6 +26,7 @@ signed_lower w v h = rw (lt-ltb v (256 ^ w / 2) h)
 
 -- a number less a larger one
 less : (a b : ℕ) → a < b → pos a -ℤ pos b ≡ negsuc (b - suc a)
+less a zero h = elim h [ ]
 less a (suc b) h = rw (lt-ltb a (suc b)) (ap negsuc (omega arith))
 
 -- in the upper half v stands for v − 256^w
