@@ -65,7 +65,7 @@ figures-from {r} {a} {parts} w (z ∷ zs) f h =
     rw (here, signed-read w z first (h 0 (omega arith)))
     (ap (λ (t : List ℤ). z ∷ t)
     ((λ k. tabulate (length zs) (λ i. signed_at w r (next i k)))
-    ∙ figures-from w zs (after first (length-signed w z)) (λ i l. h (suc i) (suc-le-suc l))))
+    ∙ figures-from {a = a + w} w zs (after first (length-signed w z)) (λ i l. h (suc i) (suc-le-suc l))))
 
 -- .. by their number
 pub figures-read : {r : List ℕ} {a n : ℕ} {parts : List (List ℕ)} (w : ℕ) (zs : List ℤ)
