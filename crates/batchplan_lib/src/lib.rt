@@ -1,5 +1,7 @@
 // What C and Rust call: planning a sheet on byte slices and numbers, with no type of Rattle's.
-// `library/include/batchplan.h` declares it for C.
+// `batchplan_lib_c` exports these functions, and `library/include/batchplan.h` declares them for C.
+#![tactic(auto)]
+
 ghost use Rattle.std.specs.Prelude.{◌≤◌, ◌≡◌, length};
 ghost use Rattle.rules.specs.Sheet.{sized};
 ghost use Rattle.rules.specs.Record.{longest_record};
@@ -85,8 +87,7 @@ fn pair_of(output: Output) -> Pair
 
 // Plans a sheet (TASK.md, T10.3): any bytes, into any buffer. It answers 0 for a plan, with its low and gap and its
 // record at the start of the buffer, and else the number of the refusal, with its place and the buffer as it was.
-#[unsafe(no_mangle)]
-pub extern "C" fn batchplan_plan(
+pub fn batchplan_plan(
     sheet: &[u8],
     record: &mut [u8],
     place: &mut usize,
@@ -109,10 +110,9 @@ pub extern "C" fn batchplan_plan(
 // Plans a sheet, any bytes, and writes its listing to the start of `text` (TASK.md, T10.4). It answers the listing's
 // length. Where the listing is longer than `text`, nothing is written and the answer is 0; a listing has at most 4,096
 // bytes (T8.4). The buffer takes every record, so that refusal 8 is never listed (T10.2).
-#[unsafe(no_mangle)]
-pub extern "C" fn batchplan_listing(sheet: &[u8], text: &mut [u8]) -> usize
+pub fn batchplan_listing(sheet: &[u8], text: &mut [u8]) -> usize
     ensures listed { Listed (listing sheet.now longest_record) text.old text.new result }
-    ensures longest_record_len_bound { length (listing sheet.now longest_record) ≤ 4096 }
+    ensures bounded { length (listing sheet.now longest_record) ≤ 4096 }
 {
     let mut record = [0u8; LONGEST];
     let answer = plan(sheet, &mut record);
@@ -122,8 +122,7 @@ pub extern "C" fn batchplan_listing(sheet: &[u8], text: &mut [u8]) -> usize
 // Writes the sheet of plain arrays (TASK.md, T10.6): any numbers, into any buffer. It answers 0, with the length of the
 // sheet beside it and the sheet at the start of the buffer; and else the number of the refusal, with its place and the
 // buffer as it was.
-#[unsafe(no_mangle)]
-pub extern "C" fn batchplan_write_sheet(
+pub fn batchplan_write_sheet(
     n: usize,
     m: usize,
     p: usize,
@@ -164,8 +163,7 @@ pub extern "C" fn batchplan_write_sheet(
 // Writes the free MPS text of a sheet (TASK.md, T10.7): any bytes, into any buffer. It answers 0, with the length of
 // the text beside it and the text at the start of the buffer; and else the number of the refusal, with its place and
 // the buffer as it was.
-#[unsafe(no_mangle)]
-pub extern "C" fn batchplan_mps(sheet: &[u8], text: &mut [u8], length_or_place: &mut usize) -> usize
+pub fn batchplan_mps(sheet: &[u8], text: &mut [u8], length_or_place: &mut usize) -> usize
     ensures { Wrote (mps_of sheet.now)
         (mps_refusal sheet.now (length text.old))
         text.old text.new result length_or_place.new }
@@ -177,8 +175,7 @@ pub extern "C" fn batchplan_mps(sheet: &[u8], text: &mut [u8], length_or_place: 
 }
 
 // The version of the rules, by which a caller can tell a library that it was not written for (TASK.md, T10.5).
-#[unsafe(no_mangle)]
-pub extern "C" fn batchplan_version() -> usize
+pub fn batchplan_version() -> usize
     ensures { result ≡ version }
 {
     VERSION

@@ -1,4 +1,6 @@
 // Little-endian numbers out of a slice of bytes.
+#![tactic(auto)]
+
 ghost use Rattle.std.specs.Prelude.{◌≡◌, ◌/◌, ◌^◌};
 ghost use Rattle.rules.specs.Bytes.{signed_of, signed_at};
 ghost use Rattle.bytes_read.specs.Inside.{Width, Inside, ReadUnsigned, InWidth};

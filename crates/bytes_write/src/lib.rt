@@ -1,4 +1,6 @@
 // Numbers into a lent buffer, little-endian.
+#![tactic(auto)]
+
 ghost use Rattle.std.specs.Prelude.{◌≡◌};
 ghost use Rattle.rules.specs.Bytes.{unsigned_bytes, signed_bytes};
 ghost use Rattle.bytes_write.specs.Written.{written_at};

@@ -1,7 +1,9 @@
 // What the programs share that are filters: the reading of standard input, and the writing of a text.
+#![tactic(auto)]
+
 ghost use Rattle.std.specs.Prelude.{◌≤◌, length};
 
-use libc::{STDERR_FILENO, STDIN_FILENO, STDOUT_FILENO};
+use std::io::{Print, Read};
 
 // The room for a sheet: one byte more than the longest has (T2.6).
 pub const BYTES: usize = 3853;
@@ -14,19 +16,17 @@ pub struct Input {
 }
 
 // Reads until the buffer is full, the input ends or a read fails, however the input is cut.
-pub fn read_input(buffer: &mut [u8]) -> Input
+pub fn read_input(input: &mut impl Read, buffer: &mut [u8]) -> Input
     ensures { result.filled ≤ length buffer.new }
 {
     let mut done: usize = 0;
     while done < buffer.len() {
-        let got = libc::read(STDIN_FILENO, &mut buffer[done..]);
-        if got < 0 {
+        let Ok(more) = input.read(&mut buffer[done..]) else {
             return Input {
                 filled: done,
                 failed: true,
             };
-        }
-        let more = io::count(got, &buffer[done..]);
+        };
         if more == 0 {
             break;
         }
@@ -39,10 +39,16 @@ pub fn read_input(buffer: &mut [u8]) -> Input
 }
 
 // Writes the text that ends before a place to standard output; where that fails, the complaint to standard error.
-pub fn print_text(text: &[u8], end: usize, complaint: &[u8])
+pub fn print_text(
+    output: &impl Print,
+    errors: &impl Print,
+    text: &[u8],
+    end: usize,
+    complaint: &[u8],
+)
     requires { end ≤ length text.now }
 {
-    if !io::write_all(STDOUT_FILENO, &text[0..end]) {
-        io::write_all(STDERR_FILENO, complaint);
+    if output.write_all(&text[0..end]).is_err() {
+        let _ = errors.write_all(complaint);
     }
 }

@@ -2,11 +2,13 @@
 //
 // A sheet comes in a frame: its length in 2 bytes, little-endian; its bytes; and as many bytes more as the program
 // wants.
+#![tactic(auto)]
+
 ghost use Rattle.std.specs.Prelude.{◌≡◌};
 ghost use Rattle.gate_frames.specs.Frames.{frame_at};
 
 use bytes_read::size_at;
-use libc::STDOUT_FILENO;
+use std::io::Print;
 
 // A sheet, from its start to its end; or the end of the input.
 #[derive(Drop)]
@@ -38,8 +40,8 @@ pub fn frame_at(input: &[u8], at: usize, after: usize) -> Frame
 }
 
 // Writes a line that ends before a place to standard output. One that would end past its room is not written.
-pub fn write_line(line: &[u8], end: usize) {
+pub fn write_line(output: &impl Print, line: &[u8], end: usize) {
     if end <= line.len() {
-        io::write_all(STDOUT_FILENO, &line[0..end]);
+        let _ = output.write_all(&line[0..end]);
     }
 }

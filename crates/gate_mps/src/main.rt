@@ -9,16 +9,22 @@
 // is a full stop.
 //
 // `tests/gate_mps` makes the frames, and works out with `tests/solver` what is to be printed.
+#![tactic(auto)]
+
 ghost use Rattle.std.specs.Prelude.{◌≤◌};
 
 use bytes_read::size_at;
+use filter::read_input;
 use gate_frames::{Frame, frame_at, write_line};
-use libc::STDIN_FILENO;
 use out_lines::put_refusal;
 use out_mps::write_mps;
 use out_numbers::put_number;
 use out_text::{put_byte, put_bytes};
 use rules::Output;
+use std::io::Print;
+
+// The room for the input.
+const INPUT: usize = 65536;
 
 // The longest buffer. The longest text has 9,248 bytes (T14.7).
 const LENT: usize = 9300;
@@ -42,23 +48,23 @@ fn show_output(line: &mut [u8], output: Output) -> usize {
 }
 
 // Writes the text of a sheet to a buffer, and prints the answer and the buffer.
-fn print_text(sheet: &[u8], buffer: &mut [u8]) {
+fn print_text(output: &impl Print, sheet: &[u8], buffer: &mut [u8]) {
     let mut line = [0u8; ROOM];
     let end = show_output(&mut line, write_mps(sheet, buffer));
-    write_line(&line, end);
-    write_line(buffer, buffer.len());
-    write_line(b"\n", 1);
+    write_line(output, &line, end);
+    write_line(output, buffer, buffer.len());
+    write_line(output, b"\n", 1);
 }
 
 // Lends a buffer of a length to the text of a sheet.
-fn print_sheet(sheet: &[u8], lent: usize)
+fn print_sheet(output: &impl Print, sheet: &[u8], lent: usize)
     requires { lent ≤ 9300 }
 {
     let mut buffer = [b'.'; LENT];
-    print_text(sheet, &mut buffer[0..lent]);
+    print_text(output, sheet, &mut buffer[0..lent]);
 }
 
-fn print_frames(input: &[u8]) {
+fn print_frames(output: &impl Print, input: &[u8]) {
     let mut at = 0;
     while at < input.len() {
         let Frame::Sheet { start, end } = frame_at(input, at, 2) else {
@@ -68,13 +74,13 @@ fn print_frames(input: &[u8]) {
         if LENT < lent {
             return;
         }
-        print_sheet(&input[start..end], lent);
+        print_sheet(output, &input[start..end], lent);
         at = end + 2;
     }
 }
 
-fn main() {
-    let mut input = io::large_buffer();
-    let length = io::read_full(STDIN_FILENO, &mut input);
-    print_frames(&input[..length]);
+fn main(rt: HostRuntime) {
+    let mut input = [0u8; INPUT];
+    let length = read_input(&mut rt.stdin(), &mut input).filled;
+    print_frames(&rt.stdout(), &input[..length]);
 }

@@ -10,15 +10,21 @@
 // every byte of the buffer, in two hexadecimal digits: the record, and the bytes that must stay as lent.
 //
 // `tests/gate_plan` makes the frames, and works out with `tests/solver` what is to be printed.
+#![tactic(auto)]
+
 ghost use Rattle.std.specs.Prelude.{◌≤◌};
 
 use bytes_read::size_at;
+use filter::read_input;
 use gate_frames::{Frame, frame_at, write_line};
-use libc::STDIN_FILENO;
 use out_numbers::{put_integer, put_number};
 use out_refusals::number_of;
 use out_text::{put_byte, put_bytes};
 use rules::{Answer, Refusal};
+use std::io::Print;
+
+// The room for the input.
+const INPUT: usize = 65536;
 
 // The longest buffer. The longest record has 342 bytes (T6.2).
 const LENT: usize = 400;
@@ -81,25 +87,25 @@ fn fill(buffer: &mut [u8]) {
 }
 
 // Plans a sheet, and prints its line.
-fn print_plan(sheet: &[u8], buffer: &mut [u8]) {
+fn print_plan(output: &impl Print, sheet: &[u8], buffer: &mut [u8]) {
     fill(buffer);
     let mut line = [0u8; ROOM];
     let answered = show_answer(&mut line, planner::plan(sheet, buffer));
     let parted = put_byte(&mut line, answered, b' ');
     let filled = show_hex(&mut line, parted, buffer);
     let end = put_byte(&mut line, filled, b'\n');
-    write_line(&line, end);
+    write_line(output, &line, end);
 }
 
 // Lends a buffer of a length to the plan of a sheet.
-fn print_sheet(sheet: &[u8], lent: usize)
+fn print_sheet(output: &impl Print, sheet: &[u8], lent: usize)
     requires { lent ≤ 400 }
 {
     let mut buffer = [0u8; LENT];
-    print_plan(sheet, &mut buffer[0..lent]);
+    print_plan(output, sheet, &mut buffer[0..lent]);
 }
 
-fn print_frames(input: &[u8]) {
+fn print_frames(output: &impl Print, input: &[u8]) {
     let mut at = 0;
     while at < input.len() {
         let Frame::Sheet { start, end } = frame_at(input, at, 2) else {
@@ -109,13 +115,13 @@ fn print_frames(input: &[u8]) {
         if LENT < lent {
             return;
         }
-        print_sheet(&input[start..end], lent);
+        print_sheet(output, &input[start..end], lent);
         at = end + 2;
     }
 }
 
-fn main() {
-    let mut input = io::large_buffer();
-    let length = io::read_full(STDIN_FILENO, &mut input);
-    print_frames(&input[..length]);
+fn main(rt: HostRuntime) {
+    let mut input = [0u8; INPUT];
+    let length = read_input(&mut rt.stdin(), &mut input).filled;
+    print_frames(&rt.stdout(), &input[..length]);
 }

@@ -8,14 +8,20 @@
 // so that a figure in a wrong place shows.
 //
 // `tests/gate_read` makes the sheets, and works out with `tests/solver` what is to be printed.
+#![tactic(auto)]
+
+use filter::read_input;
 use gate_frames::{Frame, frame_at, write_line};
-use libc::STDIN_FILENO;
 use out_lines::put_refusal;
 use out_numbers::{put_integer, put_number};
 use out_text::{put_byte, put_bytes};
 use rules::Verdict;
 use sheet_figures::Figures;
 use sheet_read::Reading;
+use std::io::Print;
+
+// The room for the input.
+const INPUT: usize = 65536;
 
 // The room for a line. A line with every figure takes less than 9,000 bytes.
 const ROOM: usize = 16384;
@@ -108,27 +114,27 @@ fn show_reading(line: &mut [u8], reading: Reading, coefficient: &[i16; 512]) -> 
     }
 }
 
-fn print_sheet(sheet: &[u8]) {
+fn print_sheet(output: &impl Print, sheet: &[u8]) {
     let mut line = [0u8; ROOM];
     let mut coefficient: [i16; 512] = [0; 512];
     let reading = sheet_read::read_sheet(sheet, &mut coefficient);
     let end = show_reading(&mut line, reading, &coefficient);
-    write_line(&line, end);
+    write_line(output, &line, end);
 }
 
-fn print_sheets(input: &[u8]) {
+fn print_sheets(output: &impl Print, input: &[u8]) {
     let mut at = 0;
     while at < input.len() {
         let Frame::Sheet { start, end } = frame_at(input, at, 0) else {
             return;
         };
-        print_sheet(&input[start..end]);
+        print_sheet(output, &input[start..end]);
         at = end;
     }
 }
 
-fn main() {
-    let mut input = io::large_buffer();
-    let length = io::read_full(STDIN_FILENO, &mut input);
-    print_sheets(&input[..length]);
+fn main(rt: HostRuntime) {
+    let mut input = [0u8; INPUT];
+    let length = read_input(&mut rt.stdin(), &mut input).filled;
+    print_sheets(&rt.stdout(), &input[..length]);
 }

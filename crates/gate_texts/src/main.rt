@@ -6,32 +6,38 @@
 //
 // So every number that 64 bits can hold can be seen in a text, whether or not a sheet has such an answer.
 // `tests/gate_texts` makes the frames, and works out what is to be printed.
+#![tactic(auto)]
+
 ghost use Rattle.bytes_read.specs.Inside.{Inside};
 
 use bytes_read::size_at;
+use filter::read_input;
 use gate_frames::{Frame, frame_at, write_line};
-use libc::STDIN_FILENO;
 use out_listing::write_listing;
 use rules::{Answer, Cause, Refusal};
+use std::io::Print;
+
+// The room for the input.
+const INPUT: usize = 65536;
 
 // The room for a text. It takes every text (T8.4).
 const ROOM: usize = 4096;
 
 // The text of an answer and its record.
-fn print_text(answer: Answer, record: &[u8]) {
+fn print_text(output: &impl Print, answer: Answer, record: &[u8]) {
     let mut out = [0u8; ROOM];
     let end = write_listing(answer, record, &mut out);
-    write_line(&out, end);
+    write_line(output, &out, end);
 }
 
 // The texts of a plan, which takes its figures out of the record, and of a refusal.
-fn print_texts(record: &[u8], place: usize) {
-    print_text(Answer::Plan { low: 0, gap: 0 }, record);
+fn print_texts(output: &impl Print, record: &[u8], place: usize) {
+    print_text(output, Answer::Plan { low: 0, gap: 0 }, record);
     let refusal = Refusal {
         cause: Cause::Buffer,
         place: place,
     };
-    print_text(Answer::Refused(refusal), record);
+    print_text(output, Answer::Refused(refusal), record);
 }
 
 // The unsigned number in the 8 bytes from place `at` on: four numbers of 2 bytes.
@@ -43,20 +49,20 @@ fn place_at(input: &[u8], at: usize) -> usize
     lower + 4294967296 * upper
 }
 
-fn print_frames(input: &[u8]) {
+fn print_frames(output: &impl Print, input: &[u8]) {
     let mut at = 0;
     while at < input.len() {
         let Frame::Sheet { start, end } = frame_at(input, at, 8) else {
             return;
         };
         let place = place_at(input, end);
-        print_texts(&input[start..end], place);
+        print_texts(output, &input[start..end], place);
         at = end + 8;
     }
 }
 
-fn main() {
-    let mut input = io::large_buffer();
-    let length = io::read_full(STDIN_FILENO, &mut input);
-    print_frames(&input[..length]);
+fn main(rt: HostRuntime) {
+    let mut input = [0u8; INPUT];
+    let length = read_input(&mut rt.stdin(), &mut input).filled;
+    print_frames(&rt.stdout(), &input[..length]);
 }

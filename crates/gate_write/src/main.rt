@@ -14,15 +14,21 @@
 // space and every byte of the buffer, in two hexadecimal digits: the sheet, and the bytes that must stay as lent.
 //
 // `tests/gate_write` makes the cases, and works out with `tests/solver` what is to be printed.
+#![tactic(auto)]
+
 ghost use Rattle.std.specs.Prelude.{◌+◌, ◌*◌, ◌≤◌, length};
 
 use bytes_read::{signed_32, size_at};
+use filter::read_input;
 use gate_frames::{Frame, frame_at, write_line};
-use libc::STDIN_FILENO;
 use out_numbers::put_number;
 use out_refusals::number_of;
 use out_text::{put_byte, put_bytes};
 use rules::{Output, Refusal, Shape, Sizes};
+use std::io::Print;
+
+// The room for the input.
+const INPUT: usize = 65536;
 
 // How many bytes of a case stand before its figures.
 const HEAD: usize = 34;
@@ -89,13 +95,13 @@ fn fill(buffer: &mut [u8]) {
 }
 
 // Prints the line of a case.
-fn print_output(output: Output, buffer: &[u8]) {
+fn print_output(output: &impl Print, answer: Output, buffer: &[u8]) {
     let mut line = [0u8; ROOM];
-    let answered = show_output(&mut line, output);
+    let answered = show_output(&mut line, answer);
     let parted = put_byte(&mut line, answered, b' ');
     let filled = show_hex(&mut line, parted, buffer);
     let end = put_byte(&mut line, filled, b'\n');
-    write_line(&line, end);
+    write_line(output, &line, end);
 }
 
 // The unsigned number of 4 bytes at a place.
@@ -135,7 +141,7 @@ fn take_figures(case: &[u8], figures: &mut [i32])
 // Each function from here to `print_case` answers whether the case is a sound one. One that is not has no line.
 
 // Writes the sheet of a case into a buffer, and prints its line. The case must have the figures that it says it has.
-fn print_written(case: &[u8], figures: &[i32], buffer: &mut [u8]) -> bool
+fn print_written(output: &impl Print, case: &[u8], figures: &[i32], buffer: &mut [u8]) -> bool
     requires { 34 ≤ length case.now }
 {
     let costs = size_at(case, 20);
@@ -148,7 +154,7 @@ fn print_written(case: &[u8], figures: &[i32], buffer: &mut [u8]) -> bool
         return false;
     }
     fill(buffer);
-    let output = sheet_write::write_sheet(
+    let answer = sheet_write::write_sheet(
         sizes_of(case),
         &figures[0..costs],
         &figures[costs..leasts],
@@ -163,7 +169,7 @@ fn print_written(case: &[u8], figures: &[i32], buffer: &mut [u8]) -> bool
 }
 
 // Takes the figures of a case, and lends it a buffer of the length that it asks for.
-fn print_lent(case: &[u8], figures: &mut [i32]) -> bool
+fn print_lent(output: &impl Print, case: &[u8], figures: &mut [i32]) -> bool
     requires { 34 + 4 * length figures.old ≤ length case.now }
 {
     let lent = size_at(case, 32);
@@ -172,11 +178,11 @@ fn print_lent(case: &[u8], figures: &mut [i32]) -> bool
     }
     take_figures(case, figures);
     let mut buffer = [0u8; LENT];
-    print_written(case, figures, &mut buffer[0..lent])
+    print_written(output, case, figures, &mut buffer[0..lent])
 }
 
 // Lends an array to the figures of a case, which are all that stands after its head.
-fn print_case(case: &[u8]) -> bool {
+fn print_case(output: &impl Print, case: &[u8]) -> bool {
     if case.len() < HEAD {
         return false;
     }
@@ -185,24 +191,24 @@ fn print_case(case: &[u8]) -> bool {
         return false;
     }
     let mut figures = [0i32; FIGURES];
-    print_lent(case, &mut figures[0..count])
+    print_lent(output, case, &mut figures[0..count])
 }
 
-fn print_frames(input: &[u8]) {
+fn print_frames(output: &impl Print, input: &[u8]) {
     let mut at = 0;
     while at < input.len() {
         let Frame::Sheet { start, end } = frame_at(input, at, 0) else {
             return;
         };
-        if !print_case(&input[start..end]) {
+        if !print_case(output, &input[start..end]) {
             return;
         }
         at = end;
     }
 }
 
-fn main() {
-    let mut input = io::large_buffer();
-    let length = io::read_full(STDIN_FILENO, &mut input);
-    print_frames(&input[..length]);
+fn main(rt: HostRuntime) {
+    let mut input = [0u8; INPUT];
+    let length = read_input(&mut rt.stdin(), &mut input).filled;
+    print_frames(&rt.stdout(), &input[..length]);
 }

@@ -1,4 +1,6 @@
 // Figures of an array into a lent buffer, one after the other.
+#![tactic(auto)]
+
 ghost use Rattle.std.specs.Prelude.{◌≡◌};
 ghost use Rattle.bytes_write.specs.Written.{written};
 ghost use Rattle.out_fields.specs.Fields.{first_fields, FieldsRoom};

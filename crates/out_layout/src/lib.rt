@@ -1,5 +1,7 @@
 // Where the record has its fields (T6.1): each begins where the one before ends.
 // A change of places is made here and in `rules`.
+#![tactic(auto)]
+
 ghost use Rattle.std.specs.Prelude.{◌≡◌, ◌≤◌};
 ghost use Rattle.rules.specs.Record.{multipliers_at, totals_at, record_length};
 ghost use Rattle.out_layout.specs.RecordSizes.{RecordSizes};
@@ -39,6 +41,7 @@ pub fn totals_at(n: usize, m: usize) -> usize
 }
 
 // The record ends after m residual totals.
+#[tactic(auto, unfolding(rules::specs::Record::record_length))]
 pub fn record_length(n: usize, m: usize) -> usize
     requires { RecordSizes n m }
     ensures { result ≡ record_length n m }

@@ -1,5 +1,7 @@
 // Lines of a listing (T8.3).
 // Each function puts something at the end of a text, place `at`, and answers the place after it.
+#![tactic(auto)]
+
 ghost use Rattle.std.specs.Prelude.{◌++◌, ◌≤◌, pos, length};
 ghost use Rattle.rules.specs.Refusals.{numbered};
 ghost use Rattle.rules.specs.Listing.{text as ascii, decimal, spaced, refusal_text};

@@ -1,4 +1,6 @@
 // A sheet's bytes to its free MPS text in lent bytes (T14), or to a refusal.
+#![tactic(auto)]
+
 ghost use Rattle.std.specs.Prelude.{◌≤◌, length};
 ghost use Rattle.rules.specs.Output.{short_buffer, Writes};
 ghost use Rattle.rules.specs.Listing.{Listed};

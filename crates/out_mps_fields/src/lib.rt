@@ -1,5 +1,7 @@
 // Parts of a line of a free MPS text (T14.2).
 // Each function puts something at the end of a text, place `at`, and answers the place after it.
+#![tactic(auto)]
+
 ghost use Rattle.std.specs.Prelude.{[], ◌∷◌, ◌++◌, pos};
 ghost use Rattle.rules.specs.Listing.{decimal};
 ghost use Rattle.rules_mps.specs.Mps.{fields};

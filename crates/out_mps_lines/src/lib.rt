@@ -1,5 +1,7 @@
 // Lines of a free MPS text (T14.3).
 // Each function puts lines at the end of a text, place `at`, and answers the place after them.
+#![tactic(auto)]
+
 ghost use Rattle.rules_mps.specs.Mps.{row_line, cost_line, coefficient_line, rhs_line, bound_lines};
 ghost use Rattle.out_text.specs.Text.{Puts};
 

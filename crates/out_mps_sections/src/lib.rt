@@ -1,6 +1,8 @@
 // Sections of a free MPS text (T14.3), without the lines that name them. The figures stand in arrays as
 // `sheet_figures` has them.
 // Each function puts lines at the end of a text, place `at`, and answers the place after them.
+#![tactic(auto)]
+
 ghost use Rattle.std.specs.Prelude.{◌+◌, ◌*◌, ◌≤◌};
 ghost use Rattle.rules.specs.Notation.{at as element};
 ghost use Rattle.rules.specs.Listing.{lines};

@@ -1,4 +1,6 @@
 // The free MPS text of a sheet's figures (T14.3).
+#![tactic(auto)]
+
 ghost use Rattle.std.specs.Prelude.{◌+◌, ◌*◌};
 ghost use Rattle.rules.specs.Notation.{at as element};
 ghost use Rattle.rules_mps.specs.Mps.{mps_text};

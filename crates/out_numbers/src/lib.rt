@@ -1,4 +1,6 @@
 // Numbers in decimal (T8.3), put at the end of a text that grows in lent bytes (`out_text`).
+#![tactic(auto)]
+
 ghost use Rattle.std.specs.Prelude.{◌≡◌, length, set, pos};
 ghost use Rattle.rules.specs.Listing.{decimal};
 ghost use Rattle.out_text.specs.Text.{Puts};

@@ -1,4 +1,6 @@
 // The text of the plan that a record holds (T8.1).
+#![tactic(auto)]
+
 ghost use Rattle.std.specs.Prelude.{cond, []};
 ghost use Rattle.rules.specs.Record.{recorded, holds_record};
 ghost use Rattle.rules.specs.Listing.{plan_text};
@@ -12,6 +14,7 @@ use out_rows::{put_limits, put_materials};
 use out_values::{put_steps, put_value};
 
 // The lines of a plan.
+#[tactic(auto, unfolding(rules::specs::Record::record_length))]
 fn put_plan(d: &mut [u8], record: &[u8], n: usize, m: usize) -> usize
     requires { WholeRecord «record».now n m }
     ensures { Puts (plan_text (recorded «record».now)) d.old 0 d.new result }

@@ -1,4 +1,6 @@
 // The record of a plan (T6.1) into a lent buffer.
+#![tactic(auto)]
+
 ghost use Rattle.std.specs.Prelude.{◌≡◌, ◌++◌, drop};
 ghost use Rattle.rules.specs.Record.{sums_at, record_of, record_length};
 ghost use Rattle.bytes_write.specs.Written.{written};
@@ -35,6 +37,7 @@ fn put_head(record: &mut [u8], head: Head)
 }
 
 // The record: its head, and then each array into what the buffer has after the one before.
+#[tactic(auto, unfolding(rules::specs::Record::record_length))]
 pub fn write_record(
     record: &mut [u8],
     head: Head,

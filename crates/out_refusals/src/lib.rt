@@ -1,9 +1,12 @@
 // The numbers of the refusals (T7.4).
+#![tactic(auto)]
+
 ghost use Rattle.std.specs.Prelude.{◌≡◌};
 ghost use Rattle.rules.specs.Refusals.{number_of};
 
 use rules::Cause;
 
+#[tactic(auto, unfolding(rules::specs::Refusals::number_of))]
 pub fn number_of(cause: Cause) -> usize
     ensures { result ≡ number_of cause }
 {

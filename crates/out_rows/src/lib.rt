@@ -1,5 +1,7 @@
 // Lines of the materials and the limits of a record.
 // Each function puts lines at the end of a text, place `at`, and answers the place after them.
+#![tactic(auto)]
+
 ghost use Rattle.std.specs.Prelude.{suc};
 ghost use Rattle.rules.specs.Listing.{lines};
 ghost use Rattle.out_text.specs.Text.{Puts};

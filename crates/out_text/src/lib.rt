@@ -1,6 +1,8 @@
 // A text that grows in lent bytes, byte by byte and word by word.
 // Each function puts something at the text's end, place `at`, and answers the place after it.
 // What does not fit into the bytes is left out.
+#![tactic(auto)]
+
 ghost use Rattle.std.specs.Prelude.{[], ◌∷◌};
 ghost use Rattle.out_text.specs.Text.{Puts};
 

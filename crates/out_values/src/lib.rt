@@ -1,5 +1,7 @@
 // Lines of single figures of a record: the step count, and the values of 8 bytes.
 // Each function puts a line at the end of a text, place `at`, and answers the place after it.
+#![tactic(auto)]
+
 ghost use Rattle.std.specs.Prelude.{[], ◌∷◌};
 ghost use Rattle.rules.specs.Bytes.{signed_at};
 ghost use Rattle.rules.specs.Record.{steps_at};

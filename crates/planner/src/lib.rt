@@ -1,4 +1,6 @@
 // Plans a sheet: its bytes and a lent buffer to the answer, with the record in the buffer.
+#![tactic(auto)]
+
 ghost use Rattle.std.proofs.Math.Option.{none};
 ghost use Rattle.std.specs.Prelude.{length};
 ghost use Rattle.rules.specs.Run.{plan_after};
@@ -72,7 +74,7 @@ fn plan_figures(f: Figures, coefficient: &[i16; 512], record: &mut [u8]) -> Answ
 
 // Plans a sheet: any bytes, into any buffer. The answer is a plan's low and gap, with its record at the start of the
 // buffer, or a refusal, with the buffer as it was.
-// In the contract `now x.entry` is the bytes of x when the function is called, and `now x.exit` when it returns.
+// In the contract `x.old` is the bytes of x when the function is called, and `x.new` when it returns.
 pub fn plan(sheet: &[u8], record: &mut [u8]) -> Answer
     ensures { Promise sheet.now «record».old «record».new result }
 {

@@ -1,1 +1,2 @@
 // Theorems about the definitions of `rules`: this crate has no code, its content is specs/.
+#![tactic(auto)]

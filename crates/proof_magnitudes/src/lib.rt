@@ -1,1 +1,2 @@
 // How large the figures of a run become: this crate has no code, its content is specs/.
+#![tactic(auto)]

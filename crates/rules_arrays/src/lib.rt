@@ -1,1 +1,2 @@
 // Definitions for writing a sheet from plain arrays: this crate has no code, its content is specs/.
+#![tactic(auto)]

@@ -1,1 +1,2 @@
 // No code: a worked sheet of the largest sizes stands in specs/.
+#![tactic(auto)]

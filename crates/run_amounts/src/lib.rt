@@ -1,4 +1,6 @@
 // The amounts at given multipliers: each material takes the end of its bounds that its reduced cost chooses (T4.3).
+#![tactic(auto)]
+
 ghost use Rattle.std.specs.Prelude.{◌≡◌};
 ghost use Rattle.rules.specs.Notation.{tabulate, at};
 ghost use Rattle.rules.specs.Step.{amount};

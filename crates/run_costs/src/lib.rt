@@ -1,5 +1,7 @@
 // Costs over the bounds and of sums: D times the cost of amounts, the greatest and the cheapest that the bounds allow,
 // and the gap.
+#![tactic(auto)]
+
 ghost use Rattle.std.specs.Prelude.{◌≡◌, pos, ◌*ℤ◌};
 ghost use Rattle.rules.specs.Notation.{at};
 ghost use Rattle.rules.specs.Problem.{cost_of};

@@ -1,4 +1,6 @@
 // The ends of the bounds, each chosen by the sign of a weight.
+#![tactic(auto)]
+
 ghost use Rattle.std.specs.Prelude.{◌≡◌};
 ghost use Rattle.rules.specs.Notation.{tabulate};
 ghost use Rattle.sheet_figures.specs.Padded.{padded};

@@ -1,4 +1,6 @@
 // A look at given multipliers: the amounts that minimise the Lagrangian, their residuals, and the dual value.
+#![tactic(auto)]
+
 ghost use Rattle.std.specs.Prelude.{◌≡◌};
 ghost use Rattle.rules.specs.Notation.{tabulate, at};
 ghost use Rattle.rules.specs.Step.{residual, look_at};

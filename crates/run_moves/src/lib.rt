@@ -1,4 +1,6 @@
 // The move of the multipliers, and refusal 10.
+#![tactic(auto)]
+
 ghost use Rattle.rules.specs.Notation.{at};
 ghost use Rattle.run_moves.specs.Moves.{limits_moved, MoveFits, Moved};
 

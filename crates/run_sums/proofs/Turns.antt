@@ -1,41 +1,37 @@
 -- One turn of a loop that adds up terms, begun at `first`, whatever the width of the sum.
-use mathlib.Core.Path.{◌≡◌, sym, ap, ◌∙◌}
-use Prim.Native.Nat.{ℕ, suc, ◌+◌, ◌≤◌, ◌<◌}
-use native.Mathlib.Numerals.{add-one}
-use native.Mathlib.Omega.{arith}
-use lib.IntN.{ℤ, ◌+ℤ◌, +ℤ_assoc, +ℤ_idr}
-use mir.Syntax.{Width}
-use mir.Val.{SFits, to_z, of_z}
-use mir.Facts.{to_z-of_z}
+use Rattle.std.specs.Prelude.{◌≡◌, ℕ, suc, ◌+◌, ◌≤◌, ◌<◌, ℤ, ◌+ℤ◌}
+use Rattle.std.specs.Int.{Width}
+use Rattle.std.proofs.Common.{sym, ap, ◌∙◌, add-one, arith, SFits}
+use Rattle.std.proofs.Math.IntN.{+ℤ_assoc, +ℤ_idr}
 use Rattle.proof_integer.specs.Sum.{sum_to-zero, sum_to-suc}
 use Rattle.rules.specs.Notation.{sum_to}
 use Rattle.run_sums.specs.SumsFit.{SumFits}
 
 module _ (w : Width) (first : ℤ) (term : ℕ → ℤ) (count : ℕ) where
-  -- before turn i, the bits `sum` stand for the first i terms
-  pub record Turn (sum i : ℕ) : Type 0 where
+  -- before turn i, the sum is that of the first i terms
+  pub record Turn (sum : ℤ) (i : ℕ) : Type 0 where
     pub within : i ≤ count
-    pub is : to_z w sum ≡ first +ℤ sum_to i term
+    pub is : sum ≡ first +ℤ sum_to i term
 
-  pub turn-start : {sum : ℕ} → to_z w sum ≡ first → Turn sum 0
+  pub turn-start : {sum : ℤ} → sum ≡ first → Turn sum 0
   turn-start e = record { within = omega arith; is = e ∙ sym (simp (sum_to-zero, +ℤ_idr)) }
 
-  module _ (fits : SumFits w first term count) {sum i : ℕ} (turn : Turn sum i) (l : i < count) where
-    sum-next : to_z w sum +ℤ term i ≡ first +ℤ sum_to (suc i) term
+  module _ (fits : SumFits w first term count) {sum : ℤ} {i : ℕ} (turn : Turn sum i) (l : i < count) where
+    sum-next : sum +ℤ term i ≡ first +ℤ sum_to (suc i) term
     sum-next =
         ap (λ z. z +ℤ term i) turn.is
         ∙ +ℤ_assoc first (sum_to i term) (term i)
         ∙ ap (λ z. first +ℤ z) (sym (sum_to-suc i term))
 
     -- the sum with term i fits
-    pub sum_fits : SFits w (to_z w sum +ℤ term i)
+    pub sum_fits : SFits w (sum +ℤ term i)
     sum_fits = rw sum-next (fits.part (suc i) l)
 
     -- and is the sum before the next turn
-    pub turn-next : {r : ℤ} → SFits w r → r ≡ to_z w sum +ℤ term i → Turn (of_z w r) (i + 1)
-    turn-next f e = rw add-one (record { within = l; is = to_z-of_z f ∙ e ∙ sum-next })
+    pub turn-next : {r : ℤ} → r ≡ sum +ℤ term i → Turn r (i + 1)
+    turn-next e = rw add-one (record { within = l; is = e ∙ sum-next })
 
-  pub turn_end : {sum i : ℕ} → Turn sum i → count ≤ i → to_z w sum ≡ first +ℤ sum_to count term
+  pub turn_end : {sum : ℤ} {i : ℕ} → Turn sum i → count ≤ i → sum ≡ first +ℤ sum_to count term
   turn_end {i = i} turn l =
       let all : i ≡ count = omega (arith, turn.within) in
       turn.is ∙ ap (λ (n : ℕ). first +ℤ sum_to n term) all

@@ -1,4 +1,6 @@
 // Sums of products: the loops of the run over materials and limits.
+#![tactic(auto)]
+
 ghost use Rattle.std.specs.Prelude.{◌≡◌, ◌+◌, ◌*◌, ◌+ℤ◌, ◌*ℤ◌};
 ghost use Rattle.rules.specs.Notation.{sum_to, at};
 ghost use Rattle.run_sums.specs.SumsFit.{RowFits, ColumnFits, PairsFit};

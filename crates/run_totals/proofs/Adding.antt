@@ -1,15 +1,8 @@
 -- Totals in places of width w, to which what stands in places of a narrower width v is added in place.
-use mathlib.Core.Path.{◌≡◌, ap, ◌∙◌}
-use mathlib.Core.List.{List}
-use Prim.Native.Nat.{ℕ, ◌+◌, ◌≤◌, ◌<◌, ◌^◌}
-use native.Mathlib.Nat.{le_refl}
-use native.Mathlib.Omega.{arith}
-use lib.Dec.{T, leb}
-use lib.IntN.{ℤ, ◌+ℤ◌}
-use lib.ListN.{set}
-use mir.Syntax.{Width}
-use mir.Val.{SFits, hbits, to_z, of_z}
-use mir.Facts.{to_z-of_z}
+use Rattle.std.specs.Prelude.{T, leb}
+use Rattle.std.proofs.Common.{◌≡◌, List, ℕ, ◌+◌, ◌≤◌, ◌<◌, ◌^◌, ℤ, ◌+ℤ◌, set, ap, ◌∙◌, le_refl, arith, SFits, to_z, of_z, to_z-of_z}
+use Rattle.std.specs.Int.{Width}
+use mir.Val.{hbits}
 use Rattle.proof_integer.specs.Range.{widened_is}
 use Rattle.rules.specs.Notation.{at}
 use Rattle.run_totals.specs.Changed.{Changed, changed-start, changed-next, changed-end}

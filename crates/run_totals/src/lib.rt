@@ -1,4 +1,6 @@
 // What a step adds in place: the sums take its amounts, and the residual totals its residuals.
+#![tactic(auto)]
+
 ghost use Rattle.std.specs.Prelude.{◌+ℤ◌};
 ghost use Rattle.std.specs.Int.{w32, w64};
 ghost use Rattle.rules.specs.Notation.{at};

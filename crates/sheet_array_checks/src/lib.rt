@@ -1,4 +1,6 @@
 // The tests of figures in plain arrays, and how many of them are not 0. Refusals 2, 4, 6 and 7.
+#![tactic(auto)]
+
 ghost use Rattle.std.specs.Prelude.{◌≡◌, length};
 ghost use Rattle.rules.specs.Refusals.{refusal_of};
 ghost use Rattle.rules_arrays.specs.Arrays.{lengths_match, arrays, arrays_refusal};

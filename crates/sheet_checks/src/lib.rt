@@ -1,4 +1,6 @@
 // The checks of a sheet that store nothing: its keys, and its bounds once they are stored. Refusals 5 and 7.
+#![tactic(auto)]
+
 ghost use Rattle.std.specs.Prelude.{◌≡◌};
 ghost use Rattle.rules.specs.Sheet.{sheet_of};
 ghost use Rattle.rules.specs.Refusals.{refusal_of, key_refusal};

@@ -1,8 +1,9 @@
 // A sheet's figures in arrays, for the run. The coefficients, which are many, stand in an array of their own that is
 // lent: a_ij at place 32 i + j. What stands at which place is said in specs/.
+#![tactic(auto)]
 
 // Places from n and from m on hold 0.
-#[derive(Drop)]
+#[derive(Clone, Copy)]
 pub struct Figures {
     // n
     pub materials: usize,

@@ -1,4 +1,6 @@
 // The header of a sheet: its sizes, refusal 1, and refusals 2 to 4.
+#![tactic(auto)]
+
 ghost use Rattle.std.specs.Prelude.{◌≡◌, length};
 ghost use Rattle.rules.specs.Sheet.{sheet_of};
 ghost use Rattle.rules.specs.Refusals.{refusal_of, sizes_refusal};

@@ -1,4 +1,6 @@
 // What a row and a column of a sheet mean: a figure of a kind, or nothing.
+#![tactic(auto)]
+
 ghost use Rattle.std.specs.Prelude.{◌≡◌, ◌||◌, ◌+◌, ltb, leb};
 ghost use Rattle.rules.specs.Ranges.{kind_at};
 ghost use Rattle.sheet_kinds.specs.Meaning.{FewLimits, meaning_of, meaning_at};

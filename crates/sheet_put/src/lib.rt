@@ -1,6 +1,8 @@
 // Sizes and entries of a sheet into a lent buffer. Where it takes e entries, their keys stand from 12 on, and their
 // values from 12 + 2e on. `count` is how many entries there are already, and each function answers how many there are
 // then.
+#![tactic(auto)]
+
 ghost use Rattle.std.specs.Prelude.{◌≡◌};
 ghost use Rattle.bytes_write.specs.Written.{written};
 ghost use Rattle.bytes_write.specs.Number.{Room};

@@ -1,4 +1,6 @@
 // The table of ranges, a constant. Whoever reads, writes or edits a sheet consults it.
+#![tactic(auto)]
+
 ghost use Rattle.std.specs.Prelude.{◌<◌, ◌≡◌};
 ghost use Rattle.rules.specs.Ranges.{index_of, range_of, in_range};
 
@@ -45,6 +47,7 @@ const RANGES: [Range; 6] = [
 ];
 
 // Where a kind of figure stands in the table.
+#[tactic(auto, unfolding(rules::specs::Ranges::index_of))]
 fn index_of(kind: Kind) -> usize
     ensures { (result ≡ index_of kind) × (result < 6) }
 {

@@ -1,4 +1,6 @@
 // A sheet's bytes to its figures, or to refusals 1 to 7.
+#![tactic(auto)]
+
 ghost use Rattle.std.specs.Prelude.{◌≡◌};
 ghost use Rattle.rules.specs.Sheet.{sheet_of};
 ghost use Rattle.rules.specs.Refusals.{layout_refusal};

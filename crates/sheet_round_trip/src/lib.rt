@@ -1,1 +1,2 @@
 // Theorems about a sheet that is written from a table: this crate has no code, its content is specs/.
+#![tactic(auto)]

@@ -1,5 +1,7 @@
 // The figures of a sheet into a lent buffer, row by row, from plain arrays. As in `sheet_put`, `count` is how many
 // entries there are already, and each function answers how many there are then.
+#![tactic(auto)]
+
 ghost use Rattle.std.specs.Prelude.{◌+◌, ◌≡◌};
 ghost use Rattle.rules.specs.Notation.{at};
 ghost use Rattle.sheet_arrays.specs.Runs.{run};

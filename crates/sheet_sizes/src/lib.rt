@@ -1,10 +1,13 @@
 // The ranges of the sizes: n, m and e, and p, D and k. Whoever reads, writes or edits a sheet consults these.
+#![tactic(auto)]
+
 ghost use Rattle.std.specs.Prelude.{◌≡◌};
 ghost use Rattle.rules.specs.Ranges.{between, dimensions_in_range, parameters_in_range};
 
 use rules::{Shape, Sizes};
 
 // Whether a size lies from its least to its greatest.
+#[tactic(auto, unfolding(rules::specs::Ranges::between))]
 fn between(least: usize, greatest: usize, size: usize) -> bool
     ensures { result ≡ between least greatest size }
 {

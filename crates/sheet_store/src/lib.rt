@@ -1,4 +1,6 @@
 // The pass that stores the entries of a sheet whose keys are good. Refusal 6.
+#![tactic(auto)]
+
 ghost use Rattle.std.specs.Prelude.{◌≡◌};
 ghost use Rattle.rules.specs.Sheet.{sheet_of, value_under};
 ghost use Rattle.rules.specs.Refusals.{refusal_of, value_refusal};

@@ -1,4 +1,6 @@
 // The table of a sheet's figures by key, in one array of 19 rows of 34 columns.
+#![tactic(auto)]
+
 ghost use Rattle.std.specs.Prelude.{◌≡◌};
 ghost use Rattle.sheet_table.specs.Tabled.{InTable, place_at};
 

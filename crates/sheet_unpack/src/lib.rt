@@ -1,4 +1,6 @@
 // From the table of a sheet's figures by key to the arrays of the run: each figure at its place, in its width.
+#![tactic(auto)]
+
 ghost use Rattle.std.specs.Prelude.{◌≡◌, ◌+◌};
 ghost use Rattle.rules.specs.Sheet.{key_of, problem_from};
 ghost use Rattle.proof_magnitudes.specs.Accepted.{Accepted};

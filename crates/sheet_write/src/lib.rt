@@ -1,4 +1,6 @@
 // A sheet from figures in plain arrays into a lent buffer (TASK.md, T13).
+#![tactic(auto)]
+
 ghost use Rattle.std.specs.Prelude.{◌≡◌, length};
 ghost use Rattle.rules.specs.Output.{Writes};
 ghost use Rattle.rules_arrays.specs.Arrays.{sheet_from, write_refusal, arrays};

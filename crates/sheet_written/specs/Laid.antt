@@ -28,4 +28,4 @@ module _ {A : Type 0} (bytes : A → List ℕ) (w : ℕ) (wide : (x : A) → len
       let first : From r a (bytes x ∷ laid bytes xs ∷ parts) =
       record { is = f.is ∙ append_assoc (bytes x) (laid bytes xs) (flatten parts) } in
       let next : a + w + w * i ≡ a + w * suc i = rw mul-suc (omega arith) in
-      rw next at (laid_from d xs i (after first (wide x)) (le_of_suc-le-suc l))
+      rw next at (laid_from {a = a + w} d xs i (after first (wide x)) (le_of_suc-le-suc l))

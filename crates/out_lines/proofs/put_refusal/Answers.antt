@@ -1,0 +1,25 @@
+-- The word, the number, the place and the newline, one after the other.
+use Rattle.std.proofs.Common.{◌≡◌, sym, ap, ◌∙◌}
+use Rattle.rules.specs.Refusals.{Numbered, numbered}
+use Rattle.rules.specs.Listing.{text, refusal_text}
+use Rattle.out_text.specs.Growing.{puts-as, then}
+use Rattle.out_lines.specs.Lines.{refusal-line}
+use Rattle.out_lines.specs.LineLength.{length-refusal-text}
+use Rattle.out_lines.proofs.put_refusal.Goals as goal
+
+pub returns : goal.returns
+unfolding numbered text
+returns c =
+    let place = c.args.refusal.place in
+    let number = c.number_of in
+    let read : Numbered = record { number = number.result; place = place } in
+    let is : refusal_text read ≡ _ = ap (λ v. refusal_text (record { number = v; place = place })) number.ensures in
+    let word = c.put_bytes-named.ensures in
+    let number_put = c.put_size-numbered.ensures in
+    let place-put = c.put_size-placed.ensures in
+    record {
+      puts = puts-as
+          (refusal-line number.result place ∙ is)
+          (then (then (then word number_put.puts) place-put.puts) c.put_byte.ensures);
+      short = rw (sym is) (length-refusal-text read number_put.v_len_bound place-put.v_len_bound);
+    }

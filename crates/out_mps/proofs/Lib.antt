@@ -1,0 +1,3 @@
+-- What the proofs share.
+--   Copied   a text that is put into room of its own, and copied
+pub mod Copied

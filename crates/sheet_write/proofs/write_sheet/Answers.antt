@@ -1,0 +1,98 @@
+-- The figures are tested, then the buffer; and then the sheet is put there.
+use Rattle.std.proofs.Common.{◌≡◌, sym, ap, ◌∙◌, List, ℕ, ◌+◌, ◌*◌, ◌<◌, ◌≤◌, length, arith}
+use Rattle.std.proofs.Math.Option.{none}
+use Rattle.rules.specs.declared.Cause.TheVariants.{Buffer}
+use Rattle.rules.specs.declared.Output.{Output}
+use Rattle.rules.specs.declared.Refusal.{Refusal}
+use Rattle.rules.specs.declared.Sizes.{Sizes}
+use Rattle.rules.specs.declared.Verdict.{Verdict}
+use Rattle.rules.specs.Refusals.{numbered, number_of, refusal_of}
+use Rattle.rules.specs.Output.{Writes, short_buffer}
+use Rattle.rules_arrays.specs.Arrays.{Arrays, sheet_from, write_refusal, arrays_refusal}
+use Rattle.rules_arrays.specs.ReadBack.{figures_present}
+use Rattle.proof_laws.specs.FirstPlace.{given, handed-on}
+use Rattle.proof_laws.specs.Outputs.{writes-refused, writes-all, too_short, long-enough}
+use Rattle.bytes_write.specs.Written.{written}
+use Rattle.sheet_arrays.specs.Accepted.{lengths-in, shape-in, few-present, wanted-is}
+use Rattle.sheet_write.specs.Ready.{Short, SheetReady}
+use Rattle.sheet_write.proofs.write_sheet.Goals as goal
+
+-- ---- the figures are refused
+refused : (z : Sizes) (A : Arrays) (d : List ℕ) (r : Refusal) → refusal_of (Verdict.Refused r) ≡ arrays_refusal z A
+    → Writes (sheet_from z A) (write_refusal z A (length d)) d d (Output.Refused r)
+unfolding refusal_of write_refusal
+refused z A d r h = writes-refused _ (given _ (sym h))
+
+-- ---- the figures are not refused
+module _ (z : Sizes) (A : Arrays) (d : List ℕ) (passed : refusal_of Verdict.Passed ≡ arrays_refusal z A) where
+  accepted : arrays_refusal z A ≡ none
+  unfolding refusal_of
+  accepted = sym passed
+
+  short : Short A
+  short = record { short = few-present z A accepted }
+
+  -- they are counted
+  module _ (e : ℕ) (counted : e ≡ figures_present A) where
+    few : e ≤ 640
+    few = omega (arith, few-present z A accepted)
+
+    wanted : length (sheet_from z A) ≡ 12 + 6 * e
+    wanted = wanted-is z A accepted ∙ ap (λ (e : ℕ). 12 + 6 * e) (sym counted)
+
+    refusal_is : write_refusal z A (length d) ≡ short_buffer 8 (sheet_from z A) (length d)
+    unfolding write_refusal
+    refusal_is = handed-on _ accepted
+
+    -- the buffer is too short
+    lacking : length d < 12 + 6 * e
+        → Writes (sheet_from z A) (write_refusal z A (length d)) d d
+        (Output.Refused record { place = 12 + 6 * e; cause = Buffer })
+    unfolding numbered number_of
+    lacking l = writes-refused _ (refusal_is ∙ too_short 8 (sheet_from z A) wanted l)
+
+    -- it is long enough
+    module _ (l : 12 + 6 * e ≤ length d) where
+      sheet-ready : SheetReady e z A d
+      sheet-ready = record {
+        narrow = (shape-in z A accepted).narrow;
+        few = (shape-in z A accepted).few;
+        lengths = lengths-in z A accepted;
+        entries = counted;
+        short = few;
+        room = l;
+      }
+
+      wrote : {d' : List ℕ} → d' ≡ written (sheet_from z A) d
+          → Writes (sheet_from z A) (write_refusal z A (length d)) d d' (Output.Wrote (12 + 6 * e))
+      unfolding written
+      wrote put = writes-all (refusal_is ∙ long-enough 8 (sheet_from z A) wanted l) (sym wanted) put
+
+pub returns-in-Refused : goal.returns-in-Refused
+returns-in-Refused c = refused c.args.sizes _ c.args.sheet.now c.in-Refused.refusal c.in-Refused.ensures
+
+pub count_entries-e-requires : goal.count_entries-e-requires
+count_entries-e-requires c = short c.args.sizes _ c.args.sheet.now c.in-Passed.ensures
+
+pub overflow_mul-wanted : goal.overflow_mul-wanted
+overflow_mul-wanted c = record {
+  fits = omega (arith, few c.args.sizes _ c.args.sheet.now c.in-Passed.ensures _ c.count_entries-e.ensures);
+}
+
+pub overflow_add-wanted : goal.overflow_add-wanted
+overflow_add-wanted c = record {
+  fits = omega (arith, few c.args.sizes _ c.args.sheet.now c.in-Passed.ensures _ c.count_entries-e.ensures);
+}
+
+pub returns-then-sheet-wanted : goal.returns-then-sheet-wanted
+returns-then-sheet-wanted c =
+    lacking c.args.sizes _ c.args.sheet.now c.in-Passed.ensures _ c.count_entries-e.ensures c.if-sheet-wanted.true
+
+pub put_sheet-requires : goal.put_sheet-requires
+put_sheet-requires c =
+    sheet-ready c.args.sizes _ c.args.sheet.now c.in-Passed.ensures _ c.count_entries-e.ensures c.if-sheet-wanted.false
+
+pub returns-else-sheet-wanted : goal.returns-else-sheet-wanted
+returns-else-sheet-wanted c =
+    wrote c.args.sizes _ c.args.sheet.now c.in-Passed.ensures _ c.count_entries-e.ensures c.if-sheet-wanted.false
+    c.put_sheet.ensures
