@@ -1,4 +1,6 @@
 // The listing of an answer (T8.1, T8.2): its text, out of the answer and its record.
+#![tactic(auto)]
+
 ghost use Rattle.std.specs.Prelude.{◌≤◌, length};
 ghost use Rattle.rules.specs.Answers.{outcome};
 ghost use Rattle.rules.specs.Listing.{text_from, Listed};

@@ -1,4 +1,6 @@
 // The end of a run: the closing look, at the multipliers that the last step leaves, with no step more.
+#![tactic(auto)]
+
 ghost use Rattle.rules.specs.Answers.{look_refusal};
 ghost use Rattle.sheet_figures.specs.Figures.{problem_of};
 ghost use Rattle.run_step.specs.States.{closed_in, HandedBack};

@@ -1,4 +1,6 @@
 // One step of the dual subgradient method with a constant step, on a state by value.
+#![tactic(auto)]
+
 ghost use Rattle.std.specs.Prelude.{◌≡◌, suc};
 ghost use Rattle.rules.specs.Answers.{refusal_at};
 ghost use Rattle.sheet_figures.specs.Figures.{problem_of};
@@ -13,7 +15,7 @@ use run_totals::{add_amounts, add_residuals};
 use sheet_figures::Figures;
 
 // The state of the run.
-#[derive(Drop)]
+#[derive(Clone, Copy)]
 pub struct State {
     // M_i at place i
     pub multipliers: [i32; 16],
@@ -26,7 +28,7 @@ pub struct State {
 }
 
 // What a step hands back: the whole state, and beside it the stop.
-#[derive(Drop)]
+#[derive(Clone, Copy)]
 pub struct Stepped {
     pub stop: Verdict,
     pub state: State,

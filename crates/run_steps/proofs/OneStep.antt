@@ -1,8 +1,7 @@
 -- One turn of the run: a step that goes on, and one that is refused; and the closing look after the last.
-use mathlib.Core.Path.{◌≡◌, sym, ap, transport, ◌∙◌}
-use mathlib.Core.Option.{none, some}
-use Prim.Native.Nat.{ℕ, suc, ◌+◌, ◌<◌}
-use native.Mathlib.Numerals.{add-one}
+use Rattle.std.proofs.Common.{◌≡◌, ℕ, suc, ◌+◌, ◌<◌, sym, ap, ◌∙◌, add-one}
+use mathlib.Core.Path.{transport}
+use Rattle.std.proofs.Math.Option.{none, some}
 use Rattle.rules.specs.declared.Refusal.{Refusal}
 use Rattle.rules.specs.declared.Verdict.TheVariants.{Passed, Refused}
 use Rattle.rules.specs.Problem.{Problem}

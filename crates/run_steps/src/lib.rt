@@ -1,4 +1,6 @@
 // The run: k steps from the starting multipliers and the closing look, or refusals 9 and 10.
+#![tactic(auto)]
+
 ghost use Rattle.rules.specs.Answers.{run_refusal};
 ghost use Rattle.sheet_figures.specs.Figures.{problem_of};
 ghost use Rattle.run_step.specs.Reached.{FiguresReady};

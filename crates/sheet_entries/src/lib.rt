@@ -1,4 +1,6 @@
 // One entry of a sheet: its key and its value.
+#![tactic(auto)]
+
 ghost use Rattle.std.specs.Prelude.{◌≡◌};
 ghost use Rattle.sheet_kinds.specs.Meaning.{FewLimits};
 ghost use Rattle.sheet_entries.specs.KeyRead.{key_answered, key_read};

@@ -14,7 +14,7 @@ use sheet_sizes::{dimensions_in_range, parameters_in_range};
 const HEADER: usize = 12;
 
 // The header of a sheet: its sizes, e, and how long the header is, which is where the keys begin.
-#[derive(Drop)]
+#[derive(Clone, Copy)]
 pub struct Header {
     pub sizes: Sizes,
     pub entries: usize,

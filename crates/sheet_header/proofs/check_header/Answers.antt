@@ -21,15 +21,18 @@ module _ (s : List ℕ) (h : Header) (read : HasHeader s h) where
   sizes-tested b e = sym (e ∙ (λ i. parameters_in_range (read.is i).sizes))
 
   -- n, m and e lie in their ranges
-  module _ (d : dimensions_in_range S.sizes.shape S.entries ≡ true) where
+  module _ {b : Bool} (e : b ≡ dimensions_in_range h.sizes.shape h.entries) (t : b ≡ true) where
+    in-range : dimensions_in_range S.sizes.shape S.entries ≡ true
+    in-range = tested b e ∙ t
+
     after-dimensions : sizes_refusal S (length s)
         ≡ refuse 3 0 (not (eqb (length s) (sheet_length S.entries)))
         otherwise refuse 4 0 (not (parameters_in_range S.sizes))
     unfolding sizes_refusal
-    after-dimensions = handed-on _ (refuse-no 2 0 (ap not d))
+    after-dimensions = handed-on _ (refuse-no 2 0 (ap not in-range))
 
     short : h.length + 6 * h.entries ≤ 64000
-    short = let r = dimensions _ _ d in omega (arith, entries-is read, keys-begin read, r.entries, short-header)
+    short = let r = dimensions _ _ in-range in omega (arith, entries-is read, keys-begin read, r.entries, short-header)
 
     -- and the length fits
     after-length : length s ≡ h.length + 6 * h.entries
@@ -45,19 +48,14 @@ returns-then-not-dimensions_in_range c =
     ap refusal_of c.refused.ensures
     ∙ sym (given _ (refuse-yes 2 0 (ap not (t ∙ c.if-not-dimensions_in_range.true))))
 
--- n, m and e lie in their ranges
-in-range : (s : List ℕ) (h : Header) → HasHeader s h → (b : Bool) → b ≡ dimensions_in_range h.sizes.shape h.entries → b ≡ true
-    → dimensions_in_range (sheet_of s).sizes.shape (sheet_of s).entries ≡ true
-in-range s h read b e t = tested s h read b e ∙ t
-
 pub overflow_mul-e : goal.overflow_mul-e
 overflow_mul-e c =
-    let h = short c.args.s.now c.args.header c.requires (in-range _ _ c.requires _ c.dimensions_in_range.ensures c.if-not-dimensions_in_range.false) in
+    let h = short c.args.s.now c.args.header c.requires c.dimensions_in_range.ensures c.if-not-dimensions_in_range.false in
     record { fits = omega arith }
 
 pub overflow_add-keys : goal.overflow_add-keys
 overflow_add-keys c =
-    let h = short c.args.s.now c.args.header c.requires (in-range _ _ c.requires _ c.dimensions_in_range.ensures c.if-not-dimensions_in_range.false) in
+    let h = short c.args.s.now c.args.header c.requires c.dimensions_in_range.ensures c.if-not-dimensions_in_range.false in
     record { fits = omega arith }
 
 pub returns-then-s-keys : goal.returns-then-s-keys
@@ -69,7 +67,7 @@ returns-then-s-keys c =
     omega (arith, entries-is c.requires, keys-begin c.requires) in
     let out = ap not (ne_eqb (length s) (sheet_length (sheet_of s).entries) (λ q. c.if-s-keys.true (q ∙ e))) in
     ap refusal_of c.refused-then-s-keys.ensures
-    ∙ sym (after-dimensions s h c.requires (in-range _ _ c.requires _ c.dimensions_in_range.ensures c.if-not-dimensions_in_range.false) ∙ given _ (refuse-yes 3 0 out))
+    ∙ sym (after-dimensions s h c.requires c.dimensions_in_range.ensures c.if-not-dimensions_in_range.false ∙ given _ (refuse-yes 3 0 out))
 
 pub returns-then-not-parameters_in_range : goal.returns-then-not-parameters_in_range
 unfolding refusal_of numbered number_of
@@ -78,7 +76,7 @@ returns-then-not-parameters_in_range c =
     let h = c.args.header in
     let t = sizes-tested s h c.requires _ c.parameters_in_range.ensures in
     ap refusal_of c.refused-then-not-parameters_in_range.ensures
-    ∙ sym (after-length s h c.requires (in-range _ _ c.requires _ c.dimensions_in_range.ensures c.if-not-dimensions_in_range.false) c.if-s-keys.false
+    ∙ sym (after-length s h c.requires c.dimensions_in_range.ensures c.if-not-dimensions_in_range.false c.if-s-keys.false
     ∙ refuse-yes 4 0 (ap not (t ∙ c.if-not-parameters_in_range.true)))
 
 pub returns : goal.returns
@@ -87,5 +85,5 @@ returns c =
     let s = c.args.s.now in
     let h = c.args.header in
     let t = sizes-tested s h c.requires _ c.parameters_in_range.ensures in
-    sym (after-length s h c.requires (in-range _ _ c.requires _ c.dimensions_in_range.ensures c.if-not-dimensions_in_range.false) c.if-s-keys.false
+    sym (after-length s h c.requires c.dimensions_in_range.ensures c.if-not-dimensions_in_range.false c.if-s-keys.false
     ∙ refuse-no 4 0 (ap not (t ∙ c.if-not-parameters_in_range.false)))
