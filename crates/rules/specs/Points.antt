@@ -21,7 +21,7 @@ abbrev pub from_sheet : List ℕ → Problem
 from_sheet sheet = problem (sheet_of sheet)
 
 -- amounts of one material, and of two
-abbrev one : ℤ → ℕ → ℤ
+abbrev pub one : ℤ → ℕ → ℤ
 one x _ = x
 
 abbrev two : ℤ → ℤ → ℕ → ℤ
@@ -114,28 +114,6 @@ pub margins-of-plan : (low gap : ℤ) → Margins C1.sheet (plan low gap) → Pl
 unfolding Holds Margins
 margins-of-plan low gap claim = claim
 
--- of every low: 1·low ≤ 8·13, and 2·low ≤ 8·27. The low of C1 meets the first with equality
-pub lower-says : (low gap : ℤ) → PlanMargins P₁ 4 low gap
-    → ((pos 1 *ℤ low) ≤ℤ pos 104) × ((pos 2 *ℤ low) ≤ℤ pos 216)
-unfolding Holds
-lower-says low gap claim = (claim.lower (pos 1) wholes wholes-feasible, claim.lower (pos 2) halves halves-feasible)
-
--- of every gap: 1·8·50 − 4·8·13 ≤ 1·gap, and 2·8·50 − 4·8·27 ≤ 2·gap. The gap of C1 meets the first with equality
-pub excess-says : (low gap : ℤ) → PlanMargins P₁ 4 low gap
-    → (neg 16 ≤ℤ (pos 1 *ℤ gap)) × (neg 64 ≤ℤ (pos 2 *ℤ gap))
-unfolding Holds
-excess-says low gap claim = (claim.excess (pos 1) wholes wholes-feasible, claim.excess (pos 2) halves halves-feasible)
-
--- the recipe (1, 10) costs 13, so that a low of 105 is refuted by it
-pub low-105 : (gap : ℤ) → PlanMargins P₁ 4 (pos 105) gap → ⊥
-unfolding Holds
-low-105 gap claim = (claim.lower (pos 1) wholes wholes-feasible).le
-
--- and a gap of −17
-pub gap-17 : (low : ℤ) → PlanMargins P₁ 4 low (neg 17) → ⊥
-unfolding Holds
-gap-17 low claim = (claim.excess (pos 1) wholes wholes-feasible).le
-
 -- ---- C8 with D = 3. Its cost is negative, so that here a claim without D, or with one step for all, would say less
 abbrev pub P₃ : Problem
 P₃ = from_sheet (encode 1 0 1 3 2 (0 ∶ neg 2 ∷ 128 ∶ pos 3 ∷ []))
@@ -149,13 +127,6 @@ negative-feasible = record {
   below = below_one _ (le_z_yes tt);
   within = λ i l. absurd (not-suc-le-zero l);
 }
-
--- of every low and gap: 2·low ≤ 3·(−12), and 2·3·(−12) − 2·3·(−12) ≤ 2·gap
-pub negative-says : (low gap : ℤ) → PlanMargins P₃ 2 low gap
-    → ((pos 2 *ℤ low) ≤ℤ neg 36) × (pos 0 ≤ℤ (pos 2 *ℤ gap))
-unfolding Holds
-negative-says low gap claim =
-    (claim.lower (pos 2) (one (pos 6)) negative-feasible, claim.excess (pos 2) (one (pos 6)) negative-feasible)
 
 -- ---- of every sheet: after refusal 9, at any place, the margins say that there is no feasible point ..
 pub margins-of-infeasible : (s : List ℕ) (place : ℕ) → Margins s (refused (record { number = 9; place = place }))
