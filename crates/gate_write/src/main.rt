@@ -164,7 +164,7 @@ fn print_written(output: &impl Print, case: &[u8], figures: &[i32], buffer: &mut
         &figures[limits..starts],
         buffer,
     );
-    print_output(output, buffer);
+    print_output(output, answer, buffer);
     true
 }
 

@@ -22,7 +22,8 @@
 --   Started    S1 to S9: sheets with starts
 --   Closing    L1 to L7: the closing look
 --   Examples   the examples of the refusals, their order, the ends of the ranges, and steps worked by hand
---   Points     feasible points and points just outside; what T9.3 to T9.7 say in numbers; claims refuted
+--   Points     feasible points and points just outside; what T9.3 to T9.7 say in numbers; claims refuted. What the
+--              margins of a plan say at two of them follows in proofs/PointClaims
 -- Signs: `pos n` and `negsuc n` are the integers n and −(n + 1); `+ℤ -ℤ *ℤ` reckon with integers, and `≤ℤ <ℤ` compare
 -- them. `ltb leb eqb` test naturals for < ≤ =, and `lt_z le_z` integers for < ≤.
 -- `cond b x y` is x where the test b holds, else y. `[]` is the empty list, `x ∷ xs` the list that begins with x, `++`

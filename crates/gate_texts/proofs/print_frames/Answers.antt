@@ -1,0 +1,19 @@
+-- The frame that was found lies inside the input.
+use Rattle.std.proofs.Common.{rules, sym, arith}
+use Rattle.gate_frames.specs.Frames.{sheet-lies}
+use Rattle.gate_texts.proofs.print_frames.Goals as goal
+
+pub slice_bounds-print_texts-count : goal.slice_bounds-print_texts-count
+slice_bounds-print_texts-count g c = let l = sheet-lies _ _ _ (sym c.in-Sheet.ensures) in search rules
+
+pub slice_bounds-print_texts-start : goal.slice_bounds-print_texts-start
+slice_bounds-print_texts-start g c = let l = sheet-lies _ _ _ (sym c.in-Sheet.ensures) in search rules
+
+pub slice_bounds-print_texts-end : goal.slice_bounds-print_texts-end
+slice_bounds-print_texts-end g c = let l = sheet-lies _ _ _ (sym c.in-Sheet.ensures) in search rules
+
+pub loop-at-smaller : goal.loop-at-smaller
+loop-at-smaller g c = let l = sheet-lies _ _ _ (sym c.in-Sheet.ensures) in search rules
+
+pub loop-at-preserved : goal.loop-at-preserved
+loop-at-preserved g c = let l = sheet-lies _ _ _ (sym c.in-Sheet.ensures) in search rules
