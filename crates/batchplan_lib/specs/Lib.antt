@@ -1,5 +1,7 @@
 -- What the exported functions promise.
---   Called   the answer to a sheet in plain numbers
---   Wrote    what writing a sheet or a text gives in plain numbers
+--   Called      the answer to a sheet in plain numbers
+--   Wrote       what writing a sheet gives in plain numbers
+--   WroteText   what writing a text gives in plain numbers
 pub mod Called
 pub mod Wrote
+pub mod WroteText

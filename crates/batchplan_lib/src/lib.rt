@@ -9,10 +9,10 @@ ghost use Rattle.rules.specs.Answers.{outcome};
 ghost use Rattle.rules.specs.Listing.{listing, Listed};
 ghost use Rattle.rules.specs.Output.{writing};
 ghost use Rattle.rules.specs.Version.{version};
-ghost use Rattle.rules_arrays.specs.Arrays.{arrays, sheet_from, write_refusal};
-ghost use Rattle.rules_mps.specs.Mps.{mps_of, mps_refusal};
+ghost use Rattle.rules_arrays.specs.Arrays.{arrays};
 ghost use Rattle.batchplan_lib.specs.Called.{numbers_of, Called};
 ghost use Rattle.batchplan_lib.specs.Wrote.{pair_of, Wrote};
+ghost use Rattle.batchplan_lib.specs.WroteText.{WroteText};
 
 use out_layout::LONGEST;
 use out_listing::write_listing;
@@ -137,11 +137,7 @@ pub fn batchplan_write_sheet(
     sheet: &mut [u8],
     length_or_place: &mut usize,
 ) -> usize
-    ensures { Wrote
-        (sheet_from (sized n m p d k) (arrays cost.now least.now most.now
-        a.now b.now start.now))
-        (write_refusal (sized n m p d k) (arrays cost.now least.now most.now
-        a.now b.now start.now) (length sheet.old))
+    ensures { Wrote (sized n m p d k) (arrays cost.now least.now most.now a.now b.now start.now)
         sheet.old sheet.new result length_or_place.new }
 {
     let shape = Shape {
@@ -164,9 +160,7 @@ pub fn batchplan_write_sheet(
 // the text beside it and the text at the start of the buffer; and else the number of the refusal, with its place and
 // the buffer as it was.
 pub fn batchplan_mps(sheet: &[u8], text: &mut [u8], length_or_place: &mut usize) -> usize
-    ensures { Wrote (mps_of sheet.now)
-        (mps_refusal sheet.now (length text.old))
-        text.old text.new result length_or_place.new }
+    ensures { WroteText sheet.now text.old text.new result length_or_place.new }
 {
     let output = write_mps(sheet, text);
     let told = pair_of(output);

@@ -7,10 +7,10 @@ ghost use Rattle.rules.specs.Sheet.{sized};
 ghost use Rattle.rules.specs.Record.{longest_record};
 ghost use Rattle.rules.specs.Listing.{listing, Listed};
 ghost use Rattle.rules.specs.Version.{version};
-ghost use Rattle.rules_arrays.specs.Arrays.{arrays, sheet_from, write_refusal};
-ghost use Rattle.rules_mps.specs.Mps.{mps_of, mps_refusal};
+ghost use Rattle.rules_arrays.specs.Arrays.{arrays};
 ghost use Rattle.batchplan_lib.specs.Called.{Called};
 ghost use Rattle.batchplan_lib.specs.Wrote.{Wrote};
+ghost use Rattle.batchplan_lib.specs.WroteText.{WroteText};
 
 // Plans a sheet (TASK.md, T10.3): any bytes, into any buffer. It answers 0 for a plan, with its low and gap and its
 // record at the start of the buffer, and else the number of the refusal, with its place and the buffer as it was.
@@ -58,11 +58,7 @@ pub extern "C" fn batchplan_write_sheet(
     sheet: &mut [u8],
     length_or_place: &mut usize,
 ) -> usize
-    ensures { Wrote
-        (sheet_from (sized n m p d k) (arrays cost.now least.now most.now
-        a.now b.now start.now))
-        (write_refusal (sized n m p d k) (arrays cost.now least.now most.now
-        a.now b.now start.now) (length sheet.old))
+    ensures { Wrote (sized n m p d k) (arrays cost.now least.now most.now a.now b.now start.now)
         sheet.old sheet.new result length_or_place.new }
 {
     batchplan_lib::batchplan_write_sheet(
@@ -87,9 +83,7 @@ pub extern "C" fn batchplan_write_sheet(
 // the buffer as it was.
 #[unsafe(no_mangle)]
 pub extern "C" fn batchplan_mps(sheet: &[u8], text: &mut [u8], length_or_place: &mut usize) -> usize
-    ensures { Wrote (mps_of sheet.now)
-        (mps_refusal sheet.now (length text.old))
-        text.old text.new result length_or_place.new }
+    ensures { WroteText sheet.now text.old text.new result length_or_place.new }
 {
     batchplan_lib::batchplan_mps(sheet, text, length_or_place)
 }
