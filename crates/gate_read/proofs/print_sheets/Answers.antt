@@ -1,5 +1,5 @@
 -- The frame that was found lies inside the input.
-use Rattle.std.proofs.Common.{rules, sym, arith}
+use Rattle.std.proofs.Common.{rules, sym}
 use Rattle.gate_frames.specs.Frames.{sheet-lies}
 use Rattle.gate_read.proofs.print_sheets.Goals as goal
 
