@@ -18,7 +18,7 @@ use Rattle.sheet_checks.specs.Keys.{Keyed}
 use Rattle.sheet_checks.specs.Bounds.{crossed_refusal, crossed-is}
 use Rattle.sheet_store.specs.Values.{stored_by}
 use Rattle.sheet_read.specs.Reading.{figures_refusal}
-use Rattle.sheet_read.proofs.Chain.{after-keys}
+use Rattle.sheet_read.proofs.Passes.{after-keys}
 use Rattle.sheet_read.proofs.Outcome.{turned-back, read_whole}
 use Rattle.sheet_read.proofs.read_figures.Goals as goal
 

@@ -11,7 +11,8 @@ use Rattle.sheet_header.specs.declared.Header.{Header}
 use Rattle.sheet_header.specs.declared.HeaderRead.{HeaderRead}
 use Rattle.sheet_header.specs.declared.HeaderRead.TheVariants.{Whole}
 use Rattle.sheet_header.specs.Header.{header_of, header_answered, header_read, headed}
-use Rattle.sheet_read.proofs.Chain.{short, after-short, after-header, after-keys}
+use Rattle.sheet_read.proofs.Chain.{short, after-short}
+use Rattle.sheet_read.proofs.Passes.{after-header, after-keys}
 use Rattle.sheet_read.proofs.Outcome.{turned-back, told-as}
 use Rattle.sheet_read.proofs.read_sheet.Goals as goal
 
