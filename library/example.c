@@ -3,7 +3,7 @@
  *
  *     example [FILE]     the sheet is FILE, or standard input
  *
- * To compile, after `rt staticlib batchplan_lib`:
+ * To compile, after `./build library`:
  *
  *     gcc -Ilibrary/include library/example.c -Ltarget/staticlib -lbatchplan_lib -o target/example
  */

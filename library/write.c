@@ -5,7 +5,7 @@
  *
  * The exit status is 0 for a plan, 1 for a refusal, and 2 where library or file are at fault.
  *
- * To compile, after `rt staticlib batchplan_lib`:
+ * To compile, after `./build library`:
  *
  *     gcc -Ilibrary/include library/write.c -Ltarget/staticlib -lbatchplan_lib -o target/write
  */

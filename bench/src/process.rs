@@ -78,7 +78,7 @@ fn compare_one(sheet: &Sheet) {
 pub fn compare(sheets: &[Sheet]) {
     if !target().join("bin/batchplan").is_file() {
         println!(
-            "target/bin/batchplan is not there, so it is not timed: `rt check batchplan` makes it"
+            "target/bin/batchplan is not there, so it is not timed: `./build batchplan` makes it"
         );
         return;
     }

@@ -53,7 +53,7 @@
  * call them at the same time, each with its own objects. They want less than 16 KB of stack. Planning the largest
  * sheet takes some two milliseconds.
  *
- * To link: the archive target/staticlib/libbatchplan_lib.a, made by `rt staticlib batchplan_lib`, for x86-64 Linux, and
+ * To link: the archive target/staticlib/libbatchplan_lib.a, made by `./build library`, for x86-64 Linux, and
  * the C library. Python and others that load a library want a shared object:
  *     gcc -shared -o libbatchplan.so -Wl,--whole-archive target/staticlib/libbatchplan_lib.a -Wl,--no-whole-archive
  * Sizes and lengths have 8 bytes there: in ctypes set `argtypes`, or a right call may be refused with 2.

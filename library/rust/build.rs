@@ -1,5 +1,5 @@
 //! Finds the archive `libbatchplan_lib.a`: in the folder that the environment variable BATCHPLAN_LIB_DIR names, and
-//! else in `target/staticlib` of the repository, where `rt staticlib batchplan_lib` puts it.
+//! else in `target/staticlib` of the repository, where `./build library` puts it.
 use std::env;
 use std::path::PathBuf;
 
@@ -10,7 +10,7 @@ fn main() {
     let archive = folder.join("libbatchplan_lib.a");
     let Ok(archive) = archive.canonicalize() else {
         panic!(
-            "{} is not there: make it by `rt staticlib batchplan_lib`, or set BATCHPLAN_LIB_DIR to its folder, \
+            "{} is not there: make it by `./build library`, or set BATCHPLAN_LIB_DIR to its folder, \
              which counts from library/rust where it is relative",
             archive.display()
         );

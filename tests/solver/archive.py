@@ -1,6 +1,5 @@
 """The archive that C and Rust link: made once for all tests that want it."""
 import fcntl
-import hashlib
 import subprocess
 
 from programs import ROOT
@@ -25,25 +24,23 @@ def run_command(what, command, **options):
     return done.stdout
 
 
-def fingerprint():
-    """A digest of what the archive is made of, the kit included, and of the archive itself."""
-    digest = hashlib.sha256(run_command("rt version", ["rt", "version"]))
-    for file in [ROOT / "crates.txt", *sorted((ROOT / "crates").rglob("*")), ARCHIVE]:
-        if file.is_file():
-            digest.update(f"{file}\0".encode() + hashlib.sha256(file.read_bytes()).digest())
-    return digest.hexdigest()
+def is_made():
+    """Whether the archive is newer than each file and each folder that it is made of."""
+    sources = [file for part in ("src", "specs", "proofs") for file in ROOT.glob(f"crates/*/{part}/**/*")]
+    sources += [*ROOT.glob("crates/*/src"), *ROOT.glob("crates/*/specs"), *ROOT.glob("crates/*/proofs")]
+    sources += [ROOT / "crates.txt", ROOT / "build"]
+    made = ARCHIVE.stat().st_mtime if ARCHIVE.is_file() else 0
+    return made > max(source.stat().st_mtime for source in sources)
 
 
 def make_archive():
-    """Makes the archive, unless it was made of the same sources before. Of tests that run at the same time one makes
-    it, and the others wait."""
-    stamp = ROOT / "target" / "archive.stamp"
-    stamp.parent.mkdir(exist_ok=True)
-    with open(stamp, "a+") as lock:
+    """Makes the archive, unless it is newer than what it is made of, as where `./test` has just made it. Of tests that
+    run at the same time one makes it, and the others wait."""
+    (ROOT / "target").mkdir(exist_ok=True)
+    with open(ROOT / "target" / "archive.lock", "w") as lock:
         fcntl.flock(lock, fcntl.LOCK_EX)
-        if stamp.read_text() != fingerprint():
-            run_command("rt staticlib batchplan_lib", ["rt", "staticlib", "batchplan_lib"])
-            stamp.write_text(fingerprint())
+        if not is_made():
+            run_command("./build library", ["./build", "library"])
     return ARCHIVE
 
 

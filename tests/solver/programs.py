@@ -18,7 +18,7 @@ SECONDS = 60
 def program_at(path):
     """The whole path of a program. A test ends here where there is none."""
     if not Path(path).is_file():
-        sys.exit(f"there is no program {path}; `rt check {Path(path).name}` builds those of target/bin")
+        sys.exit(f"there is no program {path}; `./build {Path(path).name}` builds those of target/bin")
     return Path(path).resolve()
 
 
