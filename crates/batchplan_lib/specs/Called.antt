@@ -13,7 +13,8 @@ numbers_of (refused r) = record { number = r.number; place = r.place; low = pos 
 -- caller gets.
 pub record Called (sheet lent after : List ℕ) (number place : ℕ) (low gap : ℤ) : Type 0 where
   -- T9.1, T9.2: the numbers are those of the answer by the rules
-  pub numbers : record { number = number; place = place; low = low; gap = gap } ≡ numbers_of (answer sheet (length lent))
+  pub numbers : record { number = number; place = place; low = low; gap = gap } ≡ numbers_of
+      (answer sheet (length lent))
   -- T9.1, T9.2: the buffer holds the record and then the rest as lent; after a refusal every byte is as lent
   pub buffer : after ≡ buffer_after sheet lent
   -- T9.3 to T9.7: the plan has its margins, and after refusal 9 there is no feasible recipe

@@ -1,5 +1,6 @@
 -- A number of w bytes: what writing it asks, and how many bytes it has.
-use Rattle.std.specs.Prelude.{◌≡◌, refl, List, [], ◌∷◌, ℕ, zero, suc, ◌+◌, ◌-◌, ◌*◌, ◌/◌, ◌^◌, ◌≤◌, ◌<◌, ℤ, pos, negsuc, length}
+use Rattle.std.specs.Prelude.{◌≡◌, refl, List, [], ◌∷◌, ℕ, zero, suc, ◌+◌, ◌-◌, ◌*◌, ◌/◌, ◌^◌, ◌≤◌, ◌<◌, ℤ, pos, negsuc}
+use Rattle.std.specs.Prelude.{length}
 use Rattle.std.proofs.Common.{sym, ap, mul-zero, mul-suc, arith, length-append}
 use Rattle.std.specs.Int.Signed.{mag}
 use Rattle.rules.specs.Bytes.{unsigned_bytes, signed_bytes, laid}

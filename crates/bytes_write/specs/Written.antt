@@ -1,6 +1,7 @@
 -- Bytes written to a lent buffer, and a part of the buffer lent on.
 use Rattle.std.specs.Prelude.{◌≡◌, refl, List, [], ◌++◌, ℕ, ◌+◌, ◌-◌, length, take, drop}
-use Rattle.std.proofs.Common.{sym, ap, ◌∙◌, append_assoc, append-nil, le_of_eq, length-append, length-drop, drop_of_length-le, drop-drop, take_at, drop_at, take_all}
+use Rattle.std.proofs.Common.{sym, ap, ◌∙◌, append_assoc, append-nil, le_of_eq, length-append, length-drop}
+use Rattle.std.proofs.Common.{drop_of_length-le, drop-drop, take_at, drop_at, take_all}
 
 -- the bytes at the start of d, and then the rest of d as it was
 unfoldable pub written : List ℕ → List ℕ → List ℕ

@@ -32,7 +32,8 @@ pub no_field : {w count : ℕ} {figures : List ℤ} {d : List ℕ} → FieldsPut
 unfolding laid tabulate
 no_field {d = d} = record { within = omega arith; long = refl; is = written_none d }
 
--- there is room for figure i, which fits its bytes
+-- for a proof that walks the loop by hand: the kit finds this step by itself. There is room for figure i, which fits
+-- its bytes
 pub field_room : {w count i : ℕ} {figures : List ℤ} {d₀ d : List ℕ} {z : ℤ} → FieldsRoom w count figures d₀
     → FieldsPut w count figures d₀ d i → i < count → w ≤ 8 → mag z < 256 ^ w / 2 → SignedRoom (w * i) w z d
 field_room {w} {count} {i} there t more narrow small =
@@ -50,7 +51,7 @@ field-more {w} {i = i} {figures = figures} {d₀ = d₀} {d = d} t more e l =
     let filled = fill (signed_bytes w z) before (length-signed w z) e in
     record { within = omega arith; long = l ∙ t.long; is = filled.is ∙ rw (add-one, one_more w i (at figures)) }
 
--- after the last turn all are
+-- for a proof that walks the loop by hand: the kit finds this step by itself. After the last turn all are
 pub all-fields : {w count i : ℕ} {figures : List ℤ} {d₀ d : List ℕ} → FieldsPut w count figures d₀ d i → count ≤ i
     → d ≡ written (first_fields w count figures) d₀
 all-fields {w} {count} {i} {figures} {d₀} t end =

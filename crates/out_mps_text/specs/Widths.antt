@@ -1,5 +1,6 @@
 -- How long a line is by the numbers in it, and how long lines are whose numbers rise.
-use Rattle.std.specs.Prelude.{◌≡◌, refl, List, [], Bool, true, false, cond, ℕ, zero, suc, ◌+◌, ◌-◌, ◌*◌, ◌≤◌, ◌<◌, ltb, ℤ, pos, length}
+use Rattle.std.specs.Prelude.{◌≡◌, refl, List, [], Bool, true, false, cond, ℕ, zero, suc, ◌+◌, ◌-◌, ◌*◌, ◌≤◌, ◌<◌, ltb}
+use Rattle.std.specs.Prelude.{ℤ, pos, length}
 use Rattle.std.proofs.Common.{mul-suc, mul-add, arith, ltb-true, ltb-false, length-append}
 use Rattle.rules.specs.Notation.{is_zero}
 use Rattle.rules.specs.Listing.{text, decimal, lines}

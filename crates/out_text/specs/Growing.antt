@@ -1,6 +1,8 @@
 -- Laws of a text that grows.
-use Rattle.std.specs.Prelude.{ℕ, ◌+◌, ◌<◌, ◌≤◌, ◌≡◌, refl, true, false, cond, List, [], ◌∷◌, ◌++◌, length, take, drop, set, ltb}
-use Rattle.std.proofs.Common.{sym, ap, ◌∙◌, subst, append-nil, add-zero, zero-add, add-suc, suc-add, add-one, arith, length-append, length-set, take_at, lt-ltb}
+use Rattle.std.specs.Prelude.{ℕ, ◌+◌, ◌<◌, ◌≤◌, ◌≡◌, refl, true, false, cond, List, [], ◌∷◌, ◌++◌, length, take, drop}
+use Rattle.std.specs.Prelude.{set, ltb}
+use Rattle.std.proofs.Common.{sym, ap, ◌∙◌, subst, append-nil, add-zero, zero-add, add-suc, suc-add, add-one, arith}
+use Rattle.std.proofs.Common.{length-append, length-set, take_at, lt-ltb}
 use Rattle.std.proofs.Math.Seq.{set-append_seam, append_snoc}
 use Rattle.out_text.specs.Text.{Text, put, puts, Puts}
 
@@ -43,7 +45,7 @@ unfolding puts
 length-puts [] t = refl
 length-puts (b ∷ bs) t = length-puts bs (put b t) ∙ length-put b t
 
--- and so does a call
+-- for a proof that has no length of the lent bytes from the kit: and so does a call
 pub length-kept : {bs d d' : List ℕ} {a a' : ℕ} → Puts bs d a d' a' → length d' ≡ length d
 length-kept {bs} p = ap (λ (t : Text). length t.bytes) p.is ∙ length-puts bs _
 

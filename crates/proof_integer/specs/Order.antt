@@ -1,6 +1,7 @@
 -- ℤ is an ordered ring: how ≤ and < go through sums, products and squares, and the larger of two integers.
 -- Name a law where one step is wanted. A linear goal is shorter by Parts, and one with products by `omegaℤ` of Solve.
-use Rattle.std.specs.Prelude.{◌≡◌, ◌↔◌, ◌⊎◌, Bool, true, false, not, cond, ℕ, suc, ◌*◌, ◌≤◌, T, ℤ, pos, negsuc, neg_ℤ, ◌+ℤ◌, ◌-ℤ◌, ◌*ℤ◌, ◌≤ℤ◌, ◌<ℤ◌}
+use Rattle.std.specs.Prelude.{◌≡◌, ◌↔◌, ◌⊎◌, Bool, true, false, not, cond, ℕ, suc, ◌*◌, ◌≤◌, T, ℤ, pos, negsuc, neg_ℤ}
+use Rattle.std.specs.Prelude.{◌+ℤ◌, ◌-ℤ◌, ◌*ℤ◌, ◌≤ℤ◌, ◌<ℤ◌}
 use Rattle.std.proofs.Common.{inl, inr, zero-le, arith, T_not, le→leb}
 use Rattle.std.specs.Int.Signed.{le_z, lt_z, le_z_yes, lt_z_yes, lt_z_no, ≤ℤ_refl}
 use Rattle.rules.specs.Notation.{maxℤ}

@@ -1,8 +1,10 @@
 -- Bounds of |z| by a natural, and whether z fits a signed width. Reach for it where code must not overflow:
 -- put the variables' bounds together as the expression is, and compare at the end, as in
 -- `bnd-sfits tt (h b* k b+ b-lit 3)`.
-use Rattle.std.specs.Prelude.{◌≡◌, refl, true, ℕ, zero, suc, ◌+◌, ◌*◌, ◌^◌, ◌<◌, ◌≤◌, T, ltb, leb, ℤ, pos, negsuc, neg_ℤ, nat_abs, ◌+ℤ◌, ◌-ℤ◌, ◌*ℤ◌, ◌≤ℤ◌}
-use Rattle.std.proofs.Common.{ap, arith, le_refl, le_trans, lt_of_le_of_lt, lt_of_lt_of_le, mul-le-mul, ltb→lt, leb→le, ltb-true, le-ltb, to_z-of_z}
+use Rattle.std.specs.Prelude.{◌≡◌, refl, true, ℕ, zero, suc, ◌+◌, ◌*◌, ◌^◌, ◌<◌, ◌≤◌, T, ltb, leb, ℤ, pos, negsuc}
+use Rattle.std.specs.Prelude.{neg_ℤ, nat_abs, ◌+ℤ◌, ◌-ℤ◌, ◌*ℤ◌, ◌≤ℤ◌}
+use Rattle.std.proofs.Common.{ap, arith, le_refl, le_trans, lt_of_le_of_lt, lt_of_lt_of_le, mul-le-mul, ltb→lt, leb→le}
+use Rattle.std.proofs.Common.{ltb-true, le-ltb, to_z-of_z}
 use Rattle.std.specs.Int.Signed.{mag, le_z, lt_z, nat_abs-le}
 use Rattle.std.specs.Int.{Width}
 use mir.Val.{SFits, hbits, to_z, of_z}

@@ -2,7 +2,8 @@
 -- where it is about terms.
 --   an identity, both sides being the same when multiplied out:     ringℤ n (λ x y. a ≋ b) tt
 --   a consequence, linear in its monomials when multiplied out:     omegaℤ n (λ x y. h ∷ k ∷ [] ⊢ g) (omega arith)
-use Rattle.std.specs.Prelude.{◌≡◌, refl, List, [], ◌∷◌, ℕ, zero, suc, ◌+◌, ◌*◌, ◌≤◌, ◌<◌, ℤ, pos, negsuc, ◌-ℤ◌, ◌*ℤ◌, ◌≤ℤ◌, ◌<ℤ◌}
+use Rattle.std.specs.Prelude.{◌≡◌, refl, List, [], ◌∷◌, ℕ, zero, suc, ◌+◌, ◌*◌, ◌≤◌, ◌<◌, ℤ, pos, negsuc, ◌-ℤ◌, ◌*ℤ◌}
+use Rattle.std.specs.Prelude.{◌≤ℤ◌, ◌<ℤ◌}
 use Rattle.std.proofs.Common.{◌∙◌, ap, arith}
 use Rattle.proof_integer.specs.Parts.{difs, as-dif, up, dn, add_parts, sub_parts, mul-parts}
 use Rattle.proof_integer.specs.Parts.{parts, by_parts, le→parts, parts→le, lt→parts, parts→lt}

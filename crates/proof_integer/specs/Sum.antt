@@ -73,7 +73,8 @@ sum_to-telescope (suc n) f = ap (λ t. t +ℤ (f (suc n) -ℤ f n)) (sum_to-tele
     one_more a b c = rw (as-dif a, as-dif b, as-dif c) (simp difs (omega arith))
 
 -- ---- the order of two sums does not matter
-pub sum_to-swap : (n m : ℕ) (f : ℕ → ℕ → ℤ) → sum_to n (λ i. sum_to m (λ j. f i j)) ≡ sum_to m (λ j. sum_to n (λ i. f i j))
+pub sum_to-swap : (n m : ℕ) (f : ℕ → ℕ → ℤ)
+    → sum_to n (λ i. sum_to m (λ j. f i j)) ≡ sum_to m (λ j. sum_to n (λ i. f i j))
 unfolding sum_to
 sum_to-swap zero m f = sym (sum_to-none m)
 sum_to-swap (suc n) m f =

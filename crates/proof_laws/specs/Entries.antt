@@ -1,5 +1,6 @@
 -- Entries: the row and the column of a key (T3.1) decide a kind of figure (T3.2), and a good key stands for one.
-use Rattle.std.specs.Prelude.{◌≡◌, refl, Bool, true, false, not, cond, ◌&&◌, ◌||◌, T, ltb, leb, eqb, ℤ, pos, negsuc, nat_abs}
+use Rattle.std.specs.Prelude.{◌≡◌, refl, Bool, true, false, not, cond, ◌&&◌, ◌||◌, T, ltb, leb, eqb, ℤ, pos, negsuc}
+use Rattle.std.specs.Prelude.{nat_abs}
 use Rattle.std.proofs.Common.{ap}
 use Rattle.std.proofs.Math.Bool.{or-true}
 use Prim.Native.Nat.{ℕ, suc, ◌+◌, ◌<◌, ◌≤◌}

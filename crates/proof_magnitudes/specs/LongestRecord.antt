@@ -8,7 +8,8 @@ use Rattle.rules.specs.Sheet.{sheet_of, problem}
 use Rattle.rules.specs.Record.{record_length, longest_record}
 use Rattle.rules.specs.Run.{Plan}
 use Rattle.rules.specs.Refusals.{Numbered, layout_refusal}
-use Rattle.rules.specs.Answers.{Outcome, plan, refused, look_refusal, refusal_at, step_refusal, run_refusal, plan_refusal}
+use Rattle.rules.specs.Answers.{Outcome, plan, refused, look_refusal, refusal_at, step_refusal, run_refusal}
+use Rattle.rules.specs.Answers.{plan_refusal}
 use Rattle.rules.specs.Answers.{refusal, outcome_of, plan_of, answer_to, answer}
 use Rattle.proof_laws.specs.Given.{Given, otherwise-given, first-given, refuse-given, layout-given}
 use Rattle.proof_magnitudes.specs.Accepted.{Accepted, accepted}

@@ -157,7 +157,8 @@ module _ {P : Problem} {k : ℕ} (a : Accepted P k) where
         }
 
 -- So it is after every number t of steps of an accepted problem, none of them refused ..
-pub run-magnitudes : {P : Problem} {k : ℕ} → Accepted P k → (t : ℕ) → t ≤ k → step_refusal P t ≡ none → RunMagnitudes P t
+pub run-magnitudes : {P : Problem} {k : ℕ} → Accepted P k → (t : ℕ) → t ≤ k → step_refusal P t ≡ none
+    → RunMagnitudes P t
 run-magnitudes {P} a t few h = record {
   state = state;
   step = step;

@@ -40,7 +40,8 @@ module _ (P : Problem) (start-sign : StartSign P) where
 
 -- ---- the sheet: refusals 1 to 7, and then 8 and the run
 module _ (s : List ℕ) where
-  pub refusal-margins : (room : ℕ) → RefusalMargins (problem (sheet_of s)) (refusal (sheet_of s) (layout_refusal s) room)
+  pub refusal-margins : (room : ℕ)
+      → RefusalMargins (problem (sheet_of s)) (refusal (sheet_of s) (layout_refusal s) room)
   unfolding refusal plan_refusal
   refusal-margins room =
       otherwise-given _ _ _ _ (layout-given _ _ (omega arith) s)

@@ -1,5 +1,6 @@
 -- TASK.md, T2.1: numbers of w bytes, the lowest first, read and written. Signed ones are in two's complement.
-use Rattle.std.specs.Prelude.{ℕ, zero, suc, ◌+◌, ◌-◌, ◌*◌, ◌/◌, ◌%◌, ◌^◌, cond, List, [], ◌∷◌, ◌++◌, get_or, ℤ, pos, negsuc, ◌-ℤ◌, ltb}
+use Rattle.std.specs.Prelude.{ℕ, zero, suc, ◌+◌, ◌-◌, ◌*◌, ◌/◌, ◌%◌, ◌^◌, cond, List, [], ◌∷◌, ◌++◌, get_or, ℤ, pos}
+use Rattle.std.specs.Prelude.{negsuc, ◌-ℤ◌, ltb}
 
 -- the unsigned number in the w bytes of s from place o on
 unfoldable pub unsigned_at : ℕ → List ℕ → ℕ → ℕ

@@ -8,7 +8,8 @@ use Rattle.rules.specs.Ranges.{largest}
 
 -- T2.2, T2.4: sizes and keys of 2 bytes each, then values of 4 bytes each
 unfoldable pub laid_out : List ℕ → List ℕ → List ℤ → List ℕ
-laid_out sizes keys values = laid (unsigned_bytes 2) sizes ++ laid (unsigned_bytes 2) keys ++ laid (signed_bytes 4) values
+laid_out sizes keys values = laid (unsigned_bytes 2) sizes ++ laid (unsigned_bytes 2) keys
+    ++ laid (signed_bytes 4) values
 
 -- the sizes of a sheet of e entries, in their order
 abbrev pub sizes_with : Sizes → ℕ → List ℕ

@@ -1,5 +1,6 @@
 -- TASK.md, T8: the listing, as batchplan prints it.
-use Rattle.std.specs.Prelude.{ℕ, zero, suc, ◌+◌, ◌/◌, ◌%◌, ◌≡◌, Bool, cond, List, [], ◌∷◌, ◌++◌, length, drop, ℤ, pos, negsuc, leb}
+use Rattle.std.specs.Prelude.{ℕ, zero, suc, ◌+◌, ◌/◌, ◌%◌, ◌≡◌, Bool, cond, List, [], ◌∷◌, ◌++◌, length, drop, ℤ, pos}
+use Rattle.std.specs.Prelude.{negsuc, leb}
 use Prim.Native.Char.{code}
 use Prim.Native.String as String
 use Rattle.rules.specs.Notation.{at}

@@ -1,6 +1,7 @@
 -- Notation that the definitions share: −n, the test for 0, the larger of two integers, finite sums, tests at some
 -- place, and lists by their places.
-use Rattle.std.specs.Prelude.{ℕ, zero, suc, Bool, false, cond, ◌||◌, List, [], ◌∷◌, get_or, ℤ, pos, nat_abs, neg_ℤ, ◌+ℤ◌, eqb}
+use Rattle.std.specs.Prelude.{ℕ, zero, suc, Bool, false, cond, ◌||◌, List, [], ◌∷◌, get_or, ℤ, pos, nat_abs, neg_ℤ}
+use Rattle.std.specs.Prelude.{◌+ℤ◌, eqb}
 use Rattle.std.specs.Int.Signed.{le_z}
 
 -- −n

@@ -64,7 +64,8 @@ no_figure_at shape row column =
 
 -- T3.2, T3.3: is a value bad under its key, 0 or outside its range?
 unfoldable pub value_bad : Shape → ℕ → ℤ → Bool
-value_bad shape key value = is_zero value || not (in_range (range_of (kind_at shape (row_of key) (column_of key))) value)
+value_bad shape key value =
+    is_zero value || not (in_range (range_of (kind_at shape (row_of key) (column_of key))) value)
 
 -- T7.4, is the least amount of material j above its most?
 unfoldable pub crossed : Table → ℕ → Bool

@@ -1,5 +1,6 @@
 -- How a table of sheets is written down and held against the definitions. Only worked sheets and points use it.
-use Rattle.std.specs.Prelude.{ℕ, ◌+◌, ◌-◌, ◌*◌, ◌≡◌, cond, List, [], ◌∷◌, ◌++◌, map, length, replicate, drop, ℤ, pos, ltb, eqb}
+use Rattle.std.specs.Prelude.{ℕ, ◌+◌, ◌-◌, ◌*◌, ◌≡◌, cond, List, [], ◌∷◌, ◌++◌, map, length, replicate, drop, ℤ, pos}
+use Rattle.std.specs.Prelude.{ltb, eqb}
 use Prim.Native.String.{String}
 use Rattle.rules.specs.Notation.{is_zero, maxℤ, sum_to, any_below, tabulate}
 use Rattle.rules.specs.declared.Answer.{Answer}
@@ -85,14 +86,15 @@ after r = r.bytes ++ drop (length r.bytes) (lent r.room)
 -- of that answer and that buffer. Whoever unfolds it computes with them all.
 unfoldable pub Holds : Row → Type 0
 unfolding
-    header_length is_zero laid laid_out picked keys_of written entered nibble unspaced pairs outcome numbered number_of maxℤ
-    sum_to tabulate cost_of load_of unsigned_at signed_of signed_at unsigned_bytes signed_bytes value_under problem_from ranges
-    index_of range_of kind_at in_range between dimensions_in_range parameters_in_range any_below reduced_cost amount residual
-    dual_value look_at greatest_cost cheapest_cost infeasible moved next diverged starting_state state_after
-    look_after closing_value low_after gap_of plan_after record_of record_length recorded holds_record refuse ◌otherwise◌
-    first_below no_figure_at not_above bad_key value_bad bad_value crossed sizes_refusal key_refusal value_refusal bound_refusal
-    layout_refusal look_refusal refusal_at step_refusal run_refusal plan_refusal outcome_of plan_of refusal answer_to answer
-    buffer_of buffer_after text digits decimal spaced line lines plan_text refusal_text text_of listing text_from
+    header_length is_zero laid laid_out picked keys_of written entered nibble unspaced pairs outcome numbered number_of
+    maxℤ sum_to tabulate cost_of load_of unsigned_at signed_of signed_at unsigned_bytes signed_bytes value_under
+    problem_from ranges index_of range_of kind_at in_range between dimensions_in_range parameters_in_range any_below
+    reduced_cost amount residual dual_value look_at greatest_cost cheapest_cost infeasible moved next diverged
+    starting_state state_after look_after closing_value low_after gap_of plan_after record_of record_length recorded
+    holds_record refuse ◌otherwise◌ first_below no_figure_at not_above bad_key value_bad bad_value crossed sizes_refusal
+    key_refusal value_refusal bound_refusal layout_refusal look_refusal refusal_at step_refusal run_refusal plan_refusal
+    outcome_of plan_of refusal answer_to answer buffer_of buffer_after text digits decimal spaced line lines plan_text
+    refusal_text text_of listing text_from
 Holds r =
     (answer r.sheet r.room ≡ outcome r.answer) ×
     (buffer_after r.sheet (lent r.room) ≡ after r) ×

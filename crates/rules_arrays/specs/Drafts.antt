@@ -48,10 +48,10 @@ refuses z A room cause place = record {
 -- What the definitions give is what the draft says: the answer, and the buffer afterwards.
 unfoldable pub Written : Draft → Type 0
 unfolding
-    is_zero any_below unsigned_bytes signed_bytes laid ranges index_of range_of kind_at in_range between dimensions_in_range
-    parameters_in_range laid_out picked keys_of written number_of numbered refuse ◌otherwise◌ first_below no_figure_at value_bad
-    crossed bound_refusal writing writing_of lent_after short_buffer lengths_match figure_of gathered figure_bad table_refusal
-    sheet_from arrays_refusal write_refusal nibble unspaced pairs text
+    is_zero any_below unsigned_bytes signed_bytes laid ranges index_of range_of kind_at in_range between
+    dimensions_in_range parameters_in_range laid_out picked keys_of written number_of numbered refuse ◌otherwise◌
+    first_below no_figure_at value_bad crossed bound_refusal writing writing_of lent_after short_buffer lengths_match
+    figure_of gathered figure_bad table_refusal sheet_from arrays_refusal write_refusal nibble unspaced pairs text
 Written r =
     let bytes = sheet_from r.sizes r.arrays in
     (writing_of bytes (write_refusal r.sizes r.arrays r.room) ≡ writing r.output) ×

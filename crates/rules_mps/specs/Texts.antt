@@ -40,8 +40,8 @@ refuses s room cause place t = record {
 -- What the definitions give is what the row says: the answer, the buffer afterwards, and what is printed.
 unfoldable pub Exported : Export → Type 0
 unfolding
-    Holds material_name limit_name fields unless_zero row_line cost_line coefficient_line column_lines rhs_line bound_lines
-    mps_text mps_of mps_refusal printed_of mps_printed writing writing_of lent_after short_buffer
+    Holds material_name limit_name fields unless_zero row_line cost_line coefficient_line column_lines rhs_line
+    bound_lines mps_text mps_of mps_refusal printed_of mps_printed writing writing_of lent_after short_buffer
 Exported r =
     let t = mps_of r.sheet in
     (writing_of t (mps_refusal r.sheet r.room) ≡ writing r.output) ×

@@ -1,4 +1,5 @@
--- Amounts that are the same at every material have the same cost, and it fits alike. So it is with a list of amounts in an
+-- Amounts that are the same at every material have the same cost, and it fits alike. So it is with a list of amounts in
+-- an
 -- array.
 use Rattle.std.specs.Prelude.{◌≡◌, List, ℕ, ◌<◌, ◌≤◌, ℤ, pos, ◌+ℤ◌, ◌*ℤ◌}
 use Rattle.std.specs.Int.{w32, w64}

@@ -51,4 +51,5 @@ module _ (P : Problem) (t : ℕ) {r : Stepped}
 pub hands-closed : (P : Problem) (c : ℕ) {done : State} {r : Stepped} → step_refusal P c ≡ none
     → HandedBack P done (look_refusal P c) r → HandedBack P done (run_refusal P c) r
 unfolding run_refusal
-hands-closed P c {done} {r} going h = transport (λ i. HandedBack P done (sym (handed-on (look_refusal P c) going) i) r) h
+hands-closed P c {done} {r} going h =
+    transport (λ i. HandedBack P done (sym (handed-on (look_refusal P c) going) i) r) h

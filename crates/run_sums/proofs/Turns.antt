@@ -31,6 +31,7 @@ module _ (w : Width) (first : ℤ) (term : ℕ → ℤ) (count : ℕ) where
     pub turn-next : {r : ℤ} → r ≡ sum +ℤ term i → Turn r (i + 1)
     turn-next e = rw add-one (record { within = l; is = e ∙ sum-next })
 
+  -- for a proof that walks the loop by hand: the kit finds this step by itself
   pub turn_end : {sum : ℤ} {i : ℕ} → Turn sum i → count ≤ i → sum ≡ first +ℤ sum_to count term
   turn_end {i = i} turn l =
       let all : i ≡ count = omega (arith, turn.within) in

@@ -1,6 +1,7 @@
 -- An array changed in place, at its first places.
 use Rattle.std.specs.Prelude.{◌≡◌, refl, Bool, true, false, List, ℕ, ◌+◌, ◌≤◌, ◌<◌, ltb, eqb, ℤ, pos, length, set}
-use Rattle.std.proofs.Common.{sym, ap, ◌∙◌, le_trans, le_of_eq, lt_of_lt_of_le, arith, ltb-true, ltb-false, eqb-true, length-set, get_or-set_same, get_or-set_other, ext_get_or}
+use Rattle.std.proofs.Common.{sym, ap, ◌∙◌, le_trans, le_of_eq, lt_of_lt_of_le, arith, ltb-true, ltb-false, eqb-true}
+use Rattle.std.proofs.Common.{length-set, get_or-set_same, get_or-set_other, ext_get_or}
 use Rattle.std.proofs.lemmas.Bool.{eqb-false}
 use Rattle.std.proofs.Math.ListN.{get_or-eq_default}
 use Rattle.proof_integer.specs.Vector.{length-tabulate, at-tabulate}

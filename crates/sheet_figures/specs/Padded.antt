@@ -1,5 +1,6 @@
 -- Lists in arrays that have more places: the places past the list hold 0, as reading past its end gives.
-use Rattle.std.specs.Prelude.{◌≡◌, refl, Bool, true, false, List, ℕ, suc, ◌+◌, ◌≤◌, ◌<◌, ltb, ℤ, pos, length, set, replicate}
+use Rattle.std.specs.Prelude.{◌≡◌, refl, Bool, true, false, List, ℕ, suc, ◌+◌, ◌≤◌, ◌<◌, ltb, ℤ, pos, length, set}
+use Rattle.std.specs.Prelude.{replicate}
 use Rattle.std.proofs.Math.Path.{sym}
 use Rattle.std.proofs.Common.{ap, ◌∙◌, zero-le, le_refl, le_trans, add-one, arith, ltb-true, ltb-false, ext_get_or}
 use Rattle.proof_integer.specs.Vector.{length-tabulate, at-tabulate}
@@ -29,7 +30,8 @@ at-padded room xs fits = λ k i. by i (ltb i room) refl k
 -- a list is the table of what it reads
 pub tabulate-at : (n : ℕ) (xs : List ℤ) → length xs ≡ n → tabulate n (at xs) ≡ xs
 tabulate-at n xs e =
-    ext_get_or (pos 0) _ _ (length-tabulate n (at xs) ∙ sym e) (λ i l. at-tabulate n (at xs) i (rw length-tabulate at l))
+    ext_get_or (pos 0) _ _ (length-tabulate n (at xs) ∙ sym e)
+    (λ i l. at-tabulate n (at xs) i (rw length-tabulate at l))
 
 -- a list of zeros in an array is an array of zeros
 pub padded-zero : (room n : ℕ) → padded room (tabulate n (λ _. pos 0)) ≡ replicate room (pos 0)
@@ -72,6 +74,6 @@ module _ (room : ℕ) (f : ℕ → ℤ) where
       let here = q ∙ sym (at-tabulate (suc i) f i (le_refl (suc i))) in
       rw (add-one, e) (tabulate-set room (at (tabulate i f)) (at (tabulate (suc i) f)) l here (λ x _ o. other i x o))
 
-  -- and its end
+  -- for a proof that walks the loop by hand: the kit finds this step by itself. Its end
   pub fill_end : {i n : ℕ} {z : List ℤ} → i ≡ n → z ≡ filled i → z ≡ filled n
   fill_end e q = q ∙ ap filled e

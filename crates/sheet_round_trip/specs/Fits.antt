@@ -130,6 +130,7 @@ module _ (shape : Shape) (A : Arrays) (fit : FiguresFit A) where
   gathered-fits q = by (no_figure_at shape (row_of q) (column_of q))
     where
       by : (b : Bool)
-          → SFits w32 (cond b (pos 0) (figure_of shape A (kind_at shape (row_of q) (column_of q)) (row_of q) (column_of q)))
+          → SFits w32
+          (cond b (pos 0) (figure_of shape A (kind_at shape (row_of q) (column_of q)) (row_of q) (column_of q)))
       by true = sfits_lit tt
       by false = figure-fits _ _ _

@@ -62,7 +62,8 @@ refused-alike z A lengths sizes figures =
     ∙ sym (handed-on _ (refuse-no 2 0 (ap not lengths)))
 
 -- T10.6: a buffer of the longest sheet's length takes every sheet
-pub never-8 : (z : Sizes) (A : Arrays) (room : ℕ) → arrays_refusal z A ≡ none → sheet_length (most_entries largest) ≤ room
+pub never-8 : (z : Sizes) (A : Arrays) (room : ℕ) → arrays_refusal z A ≡ none
+    → sheet_length (most_entries largest) ≤ room
     → write_refusal z A room ≡ none
 unfolding write_refusal header_length
 never-8 z A room accepted long =

@@ -1,6 +1,7 @@
 -- The table of figures by key in an array: 19 rows of 34 columns. Every key that names a figure has a place in it:
 -- 3 rows of materials and 16 of limits; 32 columns of materials, that of b, and that of the starts.
-use Rattle.std.specs.Prelude.{◌≡◌, refl, false, cond, List, ℕ, ◌+◌, ◌*◌, ◌/◌, ◌%◌, ◌<◌, ◌≤◌, ltb, ℤ, pos, set, replicate}
+use Rattle.std.specs.Prelude.{◌≡◌, refl, false, cond, List, ℕ, ◌+◌, ◌*◌, ◌/◌, ◌%◌, ◌<◌, ◌≤◌, ltb, ℤ, pos, set}
+use Rattle.std.specs.Prelude.{replicate}
 use Rattle.std.proofs.Math.Path.{ap}
 use Rattle.std.proofs.Common.{◌∙◌, arith, lt-ltb}
 use Rattle.rules.specs.declared.Shape.{Shape}

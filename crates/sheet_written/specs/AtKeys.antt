@@ -33,7 +33,8 @@ module _ (T : Table) (test : ℕ → Bool) (absent : (q : ℕ) → present (T q)
       → any_below (length (support room T)) (λ i. test (get_or (support room T) i 0)) ≡ any_below room test
   unfolding any_below
   any-support =
-      picked-induction (λ q. present (T q)) (λ n xs. any_below (length xs) (λ i. test (get_or xs i 0)) ≡ any_below n test)
+      picked-induction (λ q. present (T q))
+      (λ n xs. any_below (length xs) (λ i. test (get_or xs i 0)) ≡ any_below n test)
       refl
       (λ n h before.
       let xs = support n T in

@@ -1,6 +1,7 @@
 -- Lists that grow at their end, lists that rise, and lists that are given place by place; nothing of a sheet.
 use Rattle.std.specs.Prelude.{◌≡◌, refl, List, [], ◌∷◌, ◌++◌, map, ℕ, zero, suc, ◌<◌, length, get_or}
-use Rattle.std.proofs.Common.{ap, ap₂, inl, inr, zero-le, suc-le-suc, eq-or-lt_of_le, le_of_suc-le-suc, arith, length-append}
+use Rattle.std.proofs.Common.{ap, ap₂, inl, inr, zero-le, suc-le-suc, eq-or-lt_of_le, le_of_suc-le-suc, arith}
+use Rattle.std.proofs.Common.{length-append}
 use Rattle.std.proofs.Math.ListN.{get_or-append}
 use Rattle.std.proofs.Math.Seq.{get_or-append_seam}
 use Rattle.rules.specs.Notation.{tabulate}

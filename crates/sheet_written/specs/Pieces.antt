@@ -1,7 +1,8 @@
 -- Bytes are the bytes of the numbers that they are read as.
 use Rattle.std.specs.Prelude.{◌≡◌, Bool, true, false, List, ◌++◌, ltb, length, take, drop}
 use Rattle.std.proofs.Math.Path.{refl}
-use Rattle.std.proofs.Common.{ap, ◌∙◌, mul-suc, mul-zero, lt-suc_self, add-one, ltb-true, ltb-false, take-append-drop, drop-drop, take-add, Fits}
+use Rattle.std.proofs.Common.{ap, ◌∙◌, mul-suc, mul-zero, lt-suc_self, add-one, ltb-true, ltb-false, take-append-drop}
+use Rattle.std.proofs.Common.{drop-drop, take-add, Fits}
 use Prim.Native.Nat.{ℕ, zero, suc, ◌+◌, ◌*◌, ◌/◌, ◌%◌, ◌^◌, ◌<◌, ◌≤◌}
 use Rattle.std.proofs.Math.Nat.{le_step}
 use native.Mathlib.Omega.{arith}

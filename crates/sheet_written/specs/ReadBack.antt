@@ -8,7 +8,8 @@ use mir.Syntax.{w32}
 use mir.Val.{SFits}
 use Rattle.rules.specs.declared.Sizes.{Sizes}
 use Rattle.rules.specs.Bytes.{signed_at}
-use Rattle.rules.specs.Sheet.{header_length, size_at, value_at, sheet_length, Sheet, sheet_of, Table, value_under, table_of}
+use Rattle.rules.specs.Sheet.{header_length, size_at, value_at, sheet_length, Sheet, sheet_of, Table, value_under}
+use Rattle.rules.specs.Sheet.{table_of}
 use Rattle.rules.specs.Encoder.{laid_out, sizes_with, all_keys, keys_of, written}
 use Rattle.rules.specs.Refusals.{not_above}
 use Rattle.sheet_written.specs.Lists.{Rises}

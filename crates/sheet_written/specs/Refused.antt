@@ -60,7 +60,8 @@ module _ (z : Sizes) (T : Table) (r : List ℕ) (reads : ReadsTable z T r)
       (λ t. no_figure_at (reads.sizes t).shape (row_of (q t)) (column_of (q t)) || reads.rising i l t)
       ∙ ap (λ b. b || false) (by (get_or (keys_of T) i 0) (keys_below T i m) (keys-present T i m) _ refl)
     where
-      by : (q : ℕ) → q < all_keys → present (T q) ≡ true → (b : Bool) → no_figure_at z.shape (row_of q) (column_of q) ≡ b
+      by : (q : ℕ) → q < all_keys → present (T q) ≡ true → (b : Bool)
+          → no_figure_at z.shape (row_of q) (column_of q) ≡ b
           → no_figure_at z.shape (row_of q) (column_of q) ≡ false
       by q l p true h =
           let gone : present (T q) ≡ false = ap present (shaped q l h) ∙ absent-zero in

@@ -1,6 +1,7 @@
 -- The support of a table: the keys below `room` whose figure is not 0. `keys_of` is the support below all keys; here
 -- `room` is a variable, so that no list is written out.
-use Rattle.std.specs.Prelude.{◌≡◌, refl, Bool, true, false, not, List, [], ◌∷◌, ◌++◌, ℕ, zero, suc, ◌<◌, ◌≤◌, eqb, ℤ, pos, negsuc, length, get_or}
+use Rattle.std.specs.Prelude.{◌≡◌, refl, Bool, true, false, not, List, [], ◌∷◌, ◌++◌, ℕ, zero, suc, ◌<◌, ◌≤◌, eqb, ℤ}
+use Rattle.std.specs.Prelude.{pos, negsuc, length, get_or}
 use Rattle.std.proofs.Common.{sym, ap, ◌∙◌, lt-suc_self, arith, eqb-true}
 use Rattle.std.proofs.Math.Nat.{le_step}
 use Rattle.std.proofs.lemmas.Bool.{not-false}

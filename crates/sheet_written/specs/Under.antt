@@ -1,7 +1,8 @@
 -- What stands under a key of a sheet that has been read, by its entries; and entries whose keys rise.
 use Rattle.std.specs.Prelude.{◌≡◌, Bool, cond, eqb, ℤ, pos}
 use Rattle.std.proofs.Math.Path.{refl}
-use Rattle.std.proofs.Common.{◌∙◌, eq-or-lt_of_le, le_of_suc-le-suc, not-suc-le-zero, lt-suc_self, arith, eq-eqb, ne_eqb}
+use Rattle.std.proofs.Common.{◌∙◌, eq-or-lt_of_le, le_of_suc-le-suc, not-suc-le-zero, lt-suc_self, arith, eq-eqb}
+use Rattle.std.proofs.Common.{ne_eqb}
 use Rattle.std.proofs.Math.Bool.{true, false}
 use Rattle.std.proofs.Math.Logic.{inl, inr}
 use Prim.Native.Nat.{ℕ, zero, suc, ◌<◌}

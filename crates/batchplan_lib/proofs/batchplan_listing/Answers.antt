@@ -12,6 +12,7 @@ returns c =
     let is : text_from (outcome c.plan-answer.result) c.plan-answer.new.record
     ≡ listing c.args.sheet.now longest_record = listing-is c.plan-answer.ensures (search rules) in
     record {
-      listed = subst (λ t. Listed t c.args.text.now c.write_listing.new.out c.write_listing.result) is c.write_listing.ensures.listed;
+      listed = subst (λ t. Listed t c.args.text.now c.write_listing.new.out c.write_listing.result) is
+          c.write_listing.ensures.listed;
       bounded = subst (λ t. length t ≤ 4096) is c.write_listing.ensures.record_len_bound;
     }

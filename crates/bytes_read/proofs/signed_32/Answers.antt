@@ -5,7 +5,8 @@ use Rattle.rules.specs.Bytes.{unsigned_at, signed_at}
 use Rattle.bytes_read.specs.Width.{unsigned-below, signed_below}
 use Rattle.bytes_read.proofs.signed_32.Goals as goal
 
-narrow : (s : List ℕ) (bytes : (i : ℕ) → Fits w8 (get_or s i 0)) (at : ℕ) (r : ℤ) → r ≡ signed_at 4 s at → FitsSigned w32 r
+narrow : (s : List ℕ) (bytes : (i : ℕ) → Fits w8 (get_or s i 0)) (at : ℕ) (r : ℤ) → r ≡ signed_at 4 s at
+    → FitsSigned w32 r
 unfolding signed_at
 narrow s bytes at r e = rw e (record { sfits = signed_below 3 (unsigned_at 4 s at) (unsigned-below s bytes 4 at) })
 

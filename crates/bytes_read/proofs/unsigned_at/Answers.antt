@@ -7,7 +7,8 @@ use Rattle.bytes_read.proofs.unsigned_at.Goals as goal
 -- no byte is taken yet
 start : (s : List ℕ) (at width : ℕ) → Turn s at width 0 width
 unfolding unsigned_at
-start s at width = record { within = omega arith; number = record { is = rw sub_self; small = rw sub_self (omega arith) } }
+start s at width =
+    record { within = omega arith; number = record { is = rw sub_self; small = rw sub_self (omega arith) } }
 
 -- there is room for one byte more in 64 bits
 room : {s : List ℕ} {at width value left : ℕ} → Turn s at width value left → width ≤ 8 → 0 < left → value < 256 ^ 7
@@ -16,7 +17,8 @@ room {s} {at} {width} {value} {left} t narrow some =
     omega (arith, power, t.number.small)
 
 -- one byte more
-more : {s : List ℕ} {at width value left : ℕ} → Turn s at width value left → 0 < left → get_or s (at + (left - 1)) 0 < 256
+more : {s : List ℕ} {at width value left : ℕ} → Turn s at width value left → 0 < left
+    → get_or s (at + (left - 1)) 0 < 256
     → Turn s at width (256 * value + get_or s (at + (left - 1)) 0) (left - 1)
 unfolding unsigned_at
 more {s} {at} {width} {value} {left} t some byte =

@@ -1,5 +1,6 @@
 -- Below 0, −1 − v is how far v is below −1, and so 2^64 − 1 less that is v's bits. From 0 on v is its own bits.
-use Rattle.std.proofs.Common.{ℕ, ◌≡◌, ◌<◌, ◌-◌, refl, true, false, arith, ltb-true, ℤ, pos, negsuc, ◌-ℤ◌, nat_abs, w64, FitsSigned, to_z, of_z}
+use Rattle.std.proofs.Common.{ℕ, ◌≡◌, ◌<◌, ◌-◌, refl, true, false, arith, ltb-true, ℤ, pos, negsuc, ◌-ℤ◌, nat_abs, w64}
+use Rattle.std.proofs.Common.{FitsSigned, to_z, of_z}
 use lib.Signed.{lt_z}
 use Rattle.std.specs.Int.Signed.{mag}
 use mir.Facts.{to_z-of_z, to_z_pos}

@@ -1,5 +1,6 @@
 -- A number of w bytes only says its rest by 256^w, and so in w bytes, w at most 8, 2^64 − s is 256^w − s.
-use Rattle.std.proofs.Common.{ℕ, zero, suc, ◌+◌, ◌-◌, ◌*◌, ◌/◌, ◌^◌, ◌≤◌, ◌<◌, ◌≡◌, refl, ap, ◌∙◌, List, arith, ℤ, pos, negsuc, mul-suc}
+use Rattle.std.proofs.Common.{ℕ, zero, suc, ◌+◌, ◌-◌, ◌*◌, ◌/◌, ◌^◌, ◌≤◌, ◌<◌, ◌≡◌, refl, ap, ◌∙◌, List, arith, ℤ, pos}
+use Rattle.std.proofs.Common.{negsuc, mul-suc}
 use Rattle.std.proofs.Math.Nat.{pow-succ', mul_assoc, one-le-pow, add-mul-mod_self_left, add-mul-div_left}
 use lib.Pow.{pow-add}
 use Rattle.std.specs.Int.Signed.{mag}

@@ -1,5 +1,6 @@
 -- The sum of the column's products is the reduced cost, and the end that it chooses is the amount.
-use Rattle.std.proofs.Common.{◌≡◌, ℕ, ◌+◌, ◌*◌, ◌≤◌, ℤ, pos, ◌+ℤ◌, ◌*ℤ◌, List, sym, ap, subst, ◌∙◌, rules, arith, SFits, to_z, of_z, to_z-of_z}
+use Rattle.std.proofs.Common.{◌≡◌, ℕ, ◌+◌, ◌*◌, ◌≤◌, ℤ, pos, ◌+ℤ◌, ◌*ℤ◌, List, sym, ap, subst, ◌∙◌, rules, arith, SFits}
+use Rattle.std.proofs.Common.{to_z, of_z, to_z-of_z}
 use Rattle.std.specs.Int.{w16, w64}
 use Rattle.proof_integer.specs.Range.{widened_is, small_is}
 use Rattle.rules.specs.Notation.{sum_to, at}

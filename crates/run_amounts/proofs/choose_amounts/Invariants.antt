@@ -9,7 +9,8 @@ use Rattle.run_amounts.proofs.choose_amounts.Given as goal
 abbrev pub invariant-loop-j : goal.invariant-loop-j
 invariant-loop-j l =
     (l.j ≤ l.n)
-    × (l.amounts ≡ filled 32 (amount (without_rhs l.n l.m l.scale l.cost l.least l.most l.coefficient) (at l.multipliers)) l.j)
+    × (l.amounts ≡ filled 32 (amount (without_rhs l.n l.m l.scale l.cost l.least l.most l.coefficient) (at
+    l.multipliers)) l.j)
 
 abbrev pub decreases-loop-j : goal.decreases-loop-j
 decreases-loop-j l = l.n - l.j

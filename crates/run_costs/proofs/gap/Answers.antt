@@ -19,7 +19,16 @@ minus_64-requires c =
     let scale-is : to_z w64 c.args.scale ≡ pos c.args.scale = small_is w64 {N = 1024} tt c.requires.scale in
     let count-is : to_z w64 c.args.count ≡ pos c.args.count = small_is w64 {N = 4096} tt c.requires.few in
     let cost-is = cost-of-sums _ c.args.scale _ _ c.dot_column_64-sum.ensures in
-    rw (scale-is, to_z-of_z fits, cost-is, to_z-of_z c.requires.scaled, count-is, to_z-of_z c.ranges.low, to_z-of_z c.requires.counted)
+    rw (
+      scale-is,
+      to_z-of_z fits,
+      cost-is,
+      to_z-of_z c.requires.scaled,
+      count-is,
+      to_z-of_z c.ranges.low,
+      to_z-of_z
+          c.requires.counted,
+    )
     c.requires.whole
 
 pub returns : goal.returns
@@ -31,5 +40,14 @@ returns c =
     let cost-is = cost-of-sums _ c.args.scale _ _ c.dot_column_64-sum.ensures in
     let result-fits : SFits w64 c.minus_64.result = search rules in
     to_z-of_z result-fits
-    ∙ (rw (scale-is, to_z-of_z fits, cost-is, to_z-of_z c.requires.scaled, count-is, to_z-of_z c.ranges.low, to_z-of_z c.requires.counted)
+    ∙ (rw (
+      scale-is,
+      to_z-of_z fits,
+      cost-is,
+      to_z-of_z c.requires.scaled,
+      count-is,
+      to_z-of_z c.ranges.low,
+      to_z-of_z
+          c.requires.counted,
+    )
     at c.minus_64.ensures)

@@ -13,6 +13,7 @@ unfolding cost_of
 returns c =
     let sum-fits : SFits w32 c.dot_32-sum.result = search rules in
     let scale-is : to_z w64 c.args.scale ≡ pos c.args.scale = small_is w64 {N = 1024} tt c.requires.scale in
-    let sum-is : c.dot_32-sum.result ≡ cost_of (costs_only c.args.n c.args.scale c.args.cost.now) (at c.args.amounts.now) =
+    let sum-is : c.dot_32-sum.result ≡ cost_of (costs_only c.args.n c.args.scale c.args.cost.now)
+    (at c.args.amounts.now) =
     simp zero-add at c.dot_32-sum.ensures in
     rw (scale-is, widened_is w64 tt sum-fits, sum-is) (to_z-of_z c.requires.scaled)

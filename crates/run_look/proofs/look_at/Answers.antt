@@ -1,5 +1,6 @@
 -- Each call gives what the look at these multipliers works out.
-use Rattle.std.proofs.Common.{◌≡◌, ℕ, List, ℤ, pos, ◌+ℤ◌, ◌*ℤ◌, sym, ap, subst, ◌∙◌, rules, SFits, to_z, of_z, to_z-of_z}
+use Rattle.std.proofs.Common.{◌≡◌, ℕ, List, ℤ, pos, ◌+ℤ◌, ◌*ℤ◌, sym, ap, subst, ◌∙◌, rules, SFits, to_z, of_z}
+use Rattle.std.proofs.Common.{to_z-of_z}
 use Rattle.std.specs.Int.{w64}
 use Rattle.proof_integer.specs.Sum.{sum_to-cong}
 use Rattle.proof_integer.specs.Vector.{length-tabulate, at-tabulate}

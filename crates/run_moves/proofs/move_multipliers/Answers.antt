@@ -1,4 +1,5 @@
-use Rattle.std.proofs.Common.{◌≡◌, ℕ, ◌+◌, ◌<◌, List, ℤ, pos, ◌+ℤ◌, ◌*ℤ◌, ◌≤ℤ◌, set, T, not, false, sym, ap, subst, ◌∙◌, le_refl, rules, arith, SFits, to_z, of_z, to_z-of_z}
+use Rattle.std.proofs.Common.{◌≡◌, ℕ, ◌+◌, ◌<◌, List, ℤ, pos, ◌+ℤ◌, ◌*ℤ◌, ◌≤ℤ◌, set, T, not, false, sym, ap, subst, ◌∙◌}
+use Rattle.std.proofs.Common.{le_refl, rules, arith, SFits, to_z, of_z, to_z-of_z}
 use Rattle.std.specs.Int.{w32, w64}
 use Rattle.std.specs.Int.Signed.{lt_z, lt_z_no, le_z_yes}
 use Rattle.proof_integer.specs.Order.{≤ℤ-trans, max-left}

@@ -1,5 +1,6 @@
 -- A turn: the test of figure i, as it stands in its array.
-use Rattle.std.proofs.Common.{◌≡◌, rules, sym, ap, ◌∙◌, Bool, true, false, List, ℕ, ◌<◌, ℤ, length, arith, w32, to_z, of_z, to_z-of_z}
+use Rattle.std.proofs.Common.{◌≡◌, rules, sym, ap, ◌∙◌, Bool, true, false, List, ℕ, ◌<◌, ℤ, length, arith, w32, to_z}
+use Rattle.std.proofs.Common.{of_z, to_z-of_z}
 use mir.Val.{SFits}
 use Rattle.rules.specs.declared.Kind.{Kind}
 use Rattle.rules.specs.Notation.{any_below, at}

@@ -1,5 +1,6 @@
 -- A turn: the test compares the amounts of material j as they stand in their arrays.
-use Rattle.std.proofs.Common.{◌≡◌, rules, sym, ap, ◌∙◌, Bool, true, false, List, ℕ, ℤ, length, arith, w32, to_z, of_z, to_z-of_z}
+use Rattle.std.proofs.Common.{◌≡◌, rules, sym, ap, ◌∙◌, Bool, true, false, List, ℕ, ℤ, length, arith, w32, to_z, of_z}
+use Rattle.std.proofs.Common.{to_z-of_z}
 use Rattle.std.specs.Int.Signed.{lt_z}
 use mir.Val.{SFits}
 use Rattle.rules.specs.Notation.{at}

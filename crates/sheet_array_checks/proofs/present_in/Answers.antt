@@ -1,5 +1,6 @@
 -- A turn: figure i counts, or it does not.
-use Rattle.std.proofs.Common.{◌≡◌, rules, refl, sym, ap, ◌∙◌, List, ℕ, ◌+◌, ℤ, length, add-one, arith, w32, to_z, of_z, to_z-of_z}
+use Rattle.std.proofs.Common.{◌≡◌, rules, refl, sym, ap, ◌∙◌, List, ℕ, ◌+◌, ℤ, length, add-one, arith, w32, to_z, of_z}
+use Rattle.std.proofs.Common.{to_z-of_z}
 use mir.Val.{SFits}
 use Rattle.rules.specs.Notation.{at}
 use Rattle.rules.specs.Encoder.{picked}

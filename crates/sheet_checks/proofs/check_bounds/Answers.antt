@@ -1,5 +1,6 @@
 -- The test compares the amounts as they stand in the table.
-use Rattle.std.proofs.Common.{◌≡◌, ◌<◌, ℕ, ℤ, List, Bool, true, false, arith, rules, sym, ap, ◌∙◌, SFits, to_z, of_z, w32}
+use Rattle.std.proofs.Common.{◌≡◌, ◌<◌, ℕ, ℤ, List, Bool, true, false, arith, rules, sym, ap, ◌∙◌, SFits, to_z, of_z}
+use Rattle.std.proofs.Common.{w32}
 use Rattle.std.proofs.lemmas.Int.{to_z-of_z}
 use Rattle.std.specs.Int.Signed.{lt_z}
 use Rattle.rules.specs.Notation.{at}

@@ -40,7 +40,8 @@ returns-in_default c =
     let i = c.loop-i.i in
     let at = c.loop-i.invariant in
     let read = c.read_key-read in
-    let answered = read-is c.requires i c.loop-i.floor c.size_at.result read.result at.floor_is c.size_at.ensures.is read.ensures in
+    let answered = read-is c.requires i c.loop-i.floor c.size_at.result read.result at.floor_is c.size_at.ensures.is
+    read.ensures in
     let bad = refused_says 5 5 (bad_key S i) (S.key i) (sym answered ∙ ap key_answered c.in_default.is) in
     let inside : i < S.entries = omega (arith, entries-is c.requires.header) in
     ap refusal_of c.refused.ensures ∙ sym (scan-found 5 (bad_key S) S.entries inside at.keys bad)
@@ -59,7 +60,8 @@ overflow_add-floor c =
     let i = c.loop-i.i in
     let size = c.size_at.ensures in
     let read = c.read_key-read in
-    let answered = read-is c.requires i c.loop-i.floor c.size_at.result read.result c.loop-i.invariant.floor_is size.is read.ensures in
+    let answered = read-is c.requires i c.loop-i.floor c.size_at.result read.result c.loop-i.invariant.floor_is size.is
+    read.ensures in
     let key = (good-says S i c.in-Good.key read.result c.in-Good.is answered).1 in
     omega (arith, key, key-read c.requires i c.size_at.result size.is, size.small)
 
@@ -69,7 +71,8 @@ loop-i-preserved c =
     let i = c.loop-i.i in
     let at = c.loop-i.invariant in
     let read = c.read_key-read in
-    let answered = read-is c.requires i c.loop-i.floor c.size_at.result read.result at.floor_is c.size_at.ensures.is read.ensures in
+    let answered = read-is c.requires i c.loop-i.floor c.size_at.result read.result at.floor_is c.size_at.ensures.is
+    read.ensures in
     let says = good-says S i c.in-Good.key read.result c.in-Good.is answered in
     record {
       within = omega arith;

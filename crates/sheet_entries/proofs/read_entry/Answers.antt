@@ -14,7 +14,8 @@ use Rattle.sheet_entries.proofs.Tests.{no-entry, zero-value, out_of_range, in-ra
 use Rattle.sheet_entries.proofs.read_entry.Goals as goal
 
 -- a figure stands there, of the kind that was found
-module _ (shape : Shape) (key : ℕ) (kind : Kind) (found : meaning_of (Figure kind) ≡ meaning_at shape (row_of key) (column_of key)) where
+module _ (shape : Shape) (key : ℕ) (kind : Kind)
+    (found : meaning_of (Figure kind) ≡ meaning_at shape (row_of key) (column_of key)) where
   figure-there : no_figure_at shape (row_of key) (column_of key) ≡ false
   unfolding meaning_of meaning_at
   figure-there = (gives-says 5 _ _ _ (sym found)).0

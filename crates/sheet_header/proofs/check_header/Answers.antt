@@ -1,5 +1,6 @@
 -- Each test that fails ends in its own link of the chain; e, in its range, keeps the length small.
-use Rattle.std.proofs.Common.{◌≡◌, ◌≤◌, sym, ap, ◌∙◌, ℕ, ◌+◌, ◌*◌, Bool, true, not, List, length, arith, eq-eqb, ne_eqb, eqb}
+use Rattle.std.proofs.Common.{◌≡◌, ◌≤◌, sym, ap, ◌∙◌, ℕ, ◌+◌, ◌*◌, Bool, true, not, List, length, arith, eq-eqb, ne_eqb}
+use Rattle.std.proofs.Common.{eqb}
 use Rattle.rules.specs.Sheet.{Sheet, sheet_length, sheet_of}
 use Rattle.rules.specs.Ranges.{dimensions_in_range, parameters_in_range}
 use Rattle.rules.specs.Refusals.{number_of, numbered, refusal_of, refuse, ◌otherwise◌, sizes_refusal}
@@ -14,7 +15,8 @@ module _ (s : List ℕ) (h : Header) (read : HasHeader s h) where
   abbrev S : Sheet
   S = sheet_of s
 
-  tested : (b : Bool) → b ≡ dimensions_in_range h.sizes.shape h.entries → dimensions_in_range S.sizes.shape S.entries ≡ b
+  tested : (b : Bool) → b ≡ dimensions_in_range h.sizes.shape h.entries
+      → dimensions_in_range S.sizes.shape S.entries ≡ b
   tested b e = sym (e ∙ (λ i. dimensions_in_range (read.is i).sizes.shape (read.is i).entries))
 
   sizes-tested : (b : Bool) → b ≡ parameters_in_range h.sizes → parameters_in_range S.sizes ≡ b
@@ -38,7 +40,8 @@ module _ (s : List ℕ) (h : Header) (read : HasHeader s h) where
     after-length : length s ≡ h.length + 6 * h.entries
         → sizes_refusal S (length s) ≡ refuse 4 0 (not (parameters_in_range S.sizes))
     after-length long =
-        let fits = ap not (eq-eqb (length s) (sheet_length S.entries) (omega (arith, entries-is read, keys-begin read))) in
+        let fits =
+        ap not (eq-eqb (length s) (sheet_length S.entries) (omega (arith, entries-is read, keys-begin read))) in
         after-dimensions ∙ handed-on _ (refuse-no 3 0 fits)
 
 pub returns-then-not-dimensions_in_range : goal.returns-then-not-dimensions_in_range
@@ -50,12 +53,14 @@ returns-then-not-dimensions_in_range c =
 
 pub overflow_mul-e : goal.overflow_mul-e
 overflow_mul-e c =
-    let h = short c.args.s.now c.args.header c.requires c.dimensions_in_range.ensures c.if-not-dimensions_in_range.false in
+    let h = short c.args.s.now c.args.header c.requires c.dimensions_in_range.ensures
+    c.if-not-dimensions_in_range.false in
     record { fits = omega arith }
 
 pub overflow_add-keys : goal.overflow_add-keys
 overflow_add-keys c =
-    let h = short c.args.s.now c.args.header c.requires c.dimensions_in_range.ensures c.if-not-dimensions_in_range.false in
+    let h = short c.args.s.now c.args.header c.requires c.dimensions_in_range.ensures
+    c.if-not-dimensions_in_range.false in
     record { fits = omega arith }
 
 pub returns-then-s-keys : goal.returns-then-s-keys
@@ -67,7 +72,8 @@ returns-then-s-keys c =
     omega (arith, entries-is c.requires, keys-begin c.requires) in
     let out = ap not (ne_eqb (length s) (sheet_length (sheet_of s).entries) (λ q. c.if-s-keys.true (q ∙ e))) in
     ap refusal_of c.refused-then-s-keys.ensures
-    ∙ sym (after-dimensions s h c.requires c.dimensions_in_range.ensures c.if-not-dimensions_in_range.false ∙ given _ (refuse-yes 3 0 out))
+    ∙ sym (after-dimensions s h c.requires c.dimensions_in_range.ensures c.if-not-dimensions_in_range.false
+    ∙ given _ (refuse-yes 3 0 out))
 
 pub returns-then-not-parameters_in_range : goal.returns-then-not-parameters_in_range
 unfolding refusal_of numbered number_of
@@ -76,7 +82,8 @@ returns-then-not-parameters_in_range c =
     let h = c.args.header in
     let t = sizes-tested s h c.requires _ c.parameters_in_range.ensures in
     ap refusal_of c.refused-then-not-parameters_in_range.ensures
-    ∙ sym (after-length s h c.requires c.dimensions_in_range.ensures c.if-not-dimensions_in_range.false c.if-s-keys.false
+    ∙ sym (after-length s h c.requires c.dimensions_in_range.ensures c.if-not-dimensions_in_range.false
+    c.if-s-keys.false
     ∙ refuse-yes 4 0 (ap not (t ∙ c.if-not-parameters_in_range.true)))
 
 pub returns : goal.returns

@@ -1,5 +1,6 @@
 -- A figure of 0 has no entry; any other has its key and its value.
-use Rattle.std.proofs.Common.{◌≡◌, List, sym, ap, ◌∙◌, ℕ, ℤ, pos, length, arith, w32, w64, to_z, of_z, to_z-of_z, ◌+◌, ◌≤◌}
+use Rattle.std.proofs.Common.{◌≡◌, List, sym, ap, ◌∙◌, ℕ, ℤ, pos, length, arith, w32, w64, to_z, of_z, to_z-of_z, ◌+◌}
+use Rattle.std.proofs.Common.{◌≤◌}
 use Rattle.proof_integer.specs.Range.{widened_is}
 use Rattle.sheet_arrays.specs.Runs.{entry, entry-one}
 use Rattle.sheet_put.specs.Put.{EntriesRoom, put-absent, put-present}

@@ -83,7 +83,8 @@ module _ {s : List ℕ} {h : Header} (keyed : Keyed s h) where
       ∙ figures-same same S.sizes.steps
 
   coefficients-are : (table lent after : List ℤ) → table ≡ tabled (table_of S)
-      → after ≡ coefficients_over lent (problem_from h.sizes (table_in table)) → after ≡ coefficients_over lent (problem S)
+      → after ≡ coefficients_over lent (problem_from h.sizes (table_in table))
+      → after ≡ coefficients_over lent (problem S)
   coefficients-are table lent after t e =
       let is = keyed.headed.header.is in
       e
@@ -106,7 +107,8 @@ returns-in_default-bounds c =
     let store = c.store_entries-values in
     let t = table-is c.requires store.result store.new.table c.in-Passed.is store.ensures.table_after in
     let values = none-of c.in-Passed.is store.ensures.result_value in
-    let bounds = bounds-are c.requires c.check_bounds-bounds.result store.new.table t values c.check_bounds-bounds.ensures in
+    let bounds =
+    bounds-are c.requires c.check_bounds-bounds.result store.new.table t values c.check_bounds-bounds.ensures in
     let told = ap refusal_of c.in_default-bounds.is in
     turned-back (sheet_of c.args.s.now) c.check_bounds-bounds.result c.without_figures-in_default-bounds.ensures told
     (sym bounds ∙ told)
@@ -116,7 +118,8 @@ unpack-figures-requires c =
     let store = c.store_entries-values in
     let t = table-is c.requires store.result store.new.table c.in-Passed.is store.ensures.table_after in
     let values = none-of c.in-Passed.is store.ensures.result_value in
-    let bounds = bounds-are c.requires c.check_bounds-bounds.result store.new.table t values c.check_bounds-bounds.ensures in
+    let bounds =
+    bounds-are c.requires c.check_bounds-bounds.result store.new.table t values c.check_bounds-bounds.ensures in
     ranged-in-table c.requires store.new.table t (none-of c.in-Passed-bounds.is bounds)
 
 pub returns : goal.returns
@@ -125,7 +128,8 @@ returns c =
     let store = c.store_entries-values in
     let t = table-is c.requires store.result store.new.table c.in-Passed.is store.ensures.table_after in
     let values = none-of c.in-Passed.is store.ensures.result_value in
-    let bounds = bounds-are c.requires c.check_bounds-bounds.result store.new.table t values c.check_bounds-bounds.ensures in
+    let bounds =
+    bounds-are c.requires c.check_bounds-bounds.result store.new.table t values c.check_bounds-bounds.ensures in
     let unpacked = c.unpack-figures in
     read_whole (sheet_of c.args.s.now) refl (none-of c.in-Passed-bounds.is bounds)
     (figures-are c.requires store.new.table unpacked.result t unpacked.ensures.value)

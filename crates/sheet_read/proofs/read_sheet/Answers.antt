@@ -39,7 +39,8 @@ returns-in_default c =
 
 pub check_header-checked-requires : goal.check_header-checked-requires
 check_header-checked-requires c =
-    let says = whole-says c.args.s.now c.in-Whole.header c.read_header-read.result c.in-Whole.is c.read_header-read.ensures in
+    let says =
+    whole-says c.args.s.now c.in-Whole.header c.read_header-read.result c.in-Whole.is c.read_header-read.ensures in
     record { is = says.1 }
 
 pub returns-in_default-checked : goal.returns-in_default-checked

@@ -1,5 +1,6 @@
 -- What is read of entry i is its value, which goes to the place of its key, unless the value is bad.
-use Rattle.std.proofs.Common.{◌≡◌, ◌+◌, ◌*◌, ◌/◌, ◌%◌, ◌<◌, ℕ, ℤ, List, set, false, arith, rules, sym, ap, ◌∙◌, SFits, to_z, of_z, w32}
+use Rattle.std.proofs.Common.{◌≡◌, ◌+◌, ◌*◌, ◌/◌, ◌%◌, ◌<◌, ℕ, ℤ, List, set, false, arith, rules, sym, ap, ◌∙◌, SFits}
+use Rattle.std.proofs.Common.{to_z, of_z, w32}
 use Rattle.std.proofs.lemmas.Int.{to_z-of_z}
 use Rattle.rules.specs.declared.Verdict.{Verdict}
 use Rattle.rules.specs.Bytes.{unsigned_at, signed_at}
@@ -96,7 +97,8 @@ place_at-at-requires c =
     rw (key-read keyed i c.loop-i-test.true c.size_at-key.result c.size_at-key.ensures.is)
     (in-table keyed i c.loop-i-test.true)
 
-place-is : (key other p : ℕ) → key ≡ other → p ≡ place_at (key / 64) (key % 64) → p ≡ place_at (row_of other) (column_of other)
+place-is : (key other p : ℕ) → key ≡ other → p ≡ place_at (key / 64) (key % 64)
+    → p ≡ place_at (row_of other) (column_of other)
 place-is key other p same e = e ∙ ap (λ k. place_at (row_of k) (column_of k)) same
 
 pub bounds-table-at : goal.bounds-table-at

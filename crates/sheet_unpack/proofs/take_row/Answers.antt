@@ -1,5 +1,6 @@
 -- A figure is put as it stands in the table: its place is that of its key, and it fits both widths.
-use Rattle.std.proofs.Common.{◌≡◌, refl, ◌+◌, ◌<◌, ℕ, ℤ, List, arith, rules, add-one, ap, sym, ◌∙◌, set, SFits, to_z, of_z, w32}
+use Rattle.std.proofs.Common.{◌≡◌, refl, ◌+◌, ◌<◌, ℕ, ℤ, List, arith, rules, add-one, ap, sym, ◌∙◌, set, SFits, to_z}
+use Rattle.std.proofs.Common.{of_z, w32}
 use Rattle.std.proofs.lemmas.Int.{to_z-of_z}
 use mir.Syntax.{w16}
 use Rattle.rules.specs.Notation.{at}
@@ -24,7 +25,8 @@ pub overflow_cast-to : goal.overflow_cast-to
 overflow_cast-to c =
     let j = c.loop-j.j in
     let p = c.place_at-from.result + j in
-    let is = figure-is c.args.table.now c.args.row j p (omega (arith, c.requires.narrow)) (omega (arith, c.place_at-from.ensures)) in
+    let is = figure-is c.args.table.now c.args.row j p (omega (arith, c.requires.narrow))
+    (omega (arith, c.place_at-from.ensures)) in
     let wide : SFits w32 (at c.args.table.now p) = search rules in
     (narrowed (at c.args.table.now p) _ is wide (c.requires.fits j c.loop-j-test.true)).0
 
@@ -33,7 +35,8 @@ unfolding put
 loop-j-preserved c =
     let j = c.loop-j.j in
     let p = c.place_at-from.result + j in
-    let is = figure-is c.args.table.now c.args.row j p (omega (arith, c.requires.narrow)) (omega (arith, c.place_at-from.ensures)) in
+    let is = figure-is c.args.table.now c.args.row j p (omega (arith, c.requires.narrow))
+    (omega (arith, c.place_at-from.ensures)) in
     let wide : SFits w32 (at c.args.table.now p) = search rules in
     let kept = (narrowed (at c.args.table.now p) _ is wide (c.requires.fits j c.loop-j-test.true)).1 in
     (omega arith, rw add-one (λ i. set (c.loop-j.invariant.1 i) (c.args.at + j) (kept i)))

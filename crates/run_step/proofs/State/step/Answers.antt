@@ -1,5 +1,6 @@
 -- The look gives what step t works out, and what comes back is what the step hands back.
-use Rattle.std.proofs.Common.{◌≡◌, ℕ, suc, List, ℤ, ◌+ℤ◌, Bool, false, refl, sym, ◌∙◌, rules, SFits, to_z, of_z, to_z-of_z}
+use Rattle.std.proofs.Common.{◌≡◌, ℕ, suc, List, ℤ, ◌+ℤ◌, Bool, false, refl, sym, ◌∙◌, rules, SFits, to_z, of_z}
+use Rattle.std.proofs.Common.{to_z-of_z}
 use mathlib.Core.Path.{transport}
 use Rattle.std.specs.Int.{w32, w64}
 use Rattle.std.specs.Int.Signed.{lt_z}
