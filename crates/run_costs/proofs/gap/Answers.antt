@@ -26,8 +26,7 @@ minus_64-requires c =
       to_z-of_z c.requires.scaled,
       count-is,
       to_z-of_z c.ranges.low,
-      to_z-of_z
-          c.requires.counted,
+      to_z-of_z c.requires.counted,
     )
     c.requires.whole
 
@@ -47,7 +46,6 @@ returns c =
       to_z-of_z c.requires.scaled,
       count-is,
       to_z-of_z c.ranges.low,
-      to_z-of_z
-          c.requires.counted,
+      to_z-of_z c.requires.counted,
     )
     at c.minus_64.ensures)
