@@ -74,7 +74,7 @@ fn plan_figures(f: Figures, coefficient: &[i16; 512], record: &mut [u8]) -> Answ
 
 // Plans a sheet: any bytes, into any buffer. The answer is a plan's low and gap, with its record at the start of the
 // buffer, or a refusal, with the buffer as it was.
-// In the contract `sheet.now` is the sheet's bytes; `record.old` is the bytes of the buffer when the function is called,
+// In the contract `sheet.now` is the sheet's bytes; `record.old` is what the buffer holds when the function is called,
 // and `record.new` when it returns.
 pub fn plan(sheet: &[u8], record: &mut [u8]) -> Answer
     ensures { Promise sheet.now «record».old «record».new result }
