@@ -2,7 +2,7 @@
 --   Written    bytes at the start of a buffer, and a part of it lent on
 --   Placed     bytes at several places of a buffer
 --   Number     what writing a number asks, the bits of a signed number, and how many bytes numbers have
---   ReadBack   numbers and figures that were written are read back
+--   ReadBack   an unsigned number that was written is read back, and parts that follow each other
 pub mod Written
 pub mod Placed
 pub mod Number

@@ -14,8 +14,8 @@ use Rattle.rules.specs.Answers.{answer_to, answer, buffer_of, buffer_after}
 use Rattle.rules.specs.Listing.{text_of, text_from, listing}
 use Rattle.rules.specs.Promise.{Promise}
 use Rattle.proof_laws.specs.NotRefused.{otherwise-none}
-use Rattle.proof_magnitudes.specs.Accepted.{accepted}
-use Rattle.proof_magnitudes.specs.PlanFits.{plan-fits}
+use Rattle.proof_magnitudes.proofs.Accepted.{accepted}
+use Rattle.proof_magnitudes.proofs.PlanFits.{plan-fits}
 use Rattle.out_layout.specs.RecordSizes.{RecordSizes}
 use Rattle.out_record.specs.RoundTrip.{round_trip, holds-record}
 

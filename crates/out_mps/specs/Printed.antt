@@ -11,7 +11,7 @@ use Rattle.rules.specs.Output.{wrote, refused, writing, writing_of, lent_after, 
 use Rattle.rules.specs.Listing.{refusal_text, Listed}
 use Rattle.rules_mps.specs.Mps.{mps_of, mps_refusal, longest_mps, printed_of, mps_printed}
 use Rattle.proof_laws.specs.Outputs.{long-enough}
-use Rattle.proof_magnitudes.specs.Accepted.{accepted}
+use Rattle.proof_magnitudes.proofs.Accepted.{accepted}
 use Rattle.out_lines.specs.Lines.{Begins}
 use Rattle.out_listing.specs.WholeText.{listed, listed-is}
 use Rattle.out_mps_text.specs.Longest.{text-short}

@@ -9,7 +9,8 @@ use Rattle.rules.specs.Record.{fields, record_of, record_length, recorded, holds
 use Rattle.rules.specs.Record.{limits_at, sums_at, multipliers_at, totals_at}
 use Rattle.proof_magnitudes.specs.PlanFits.{PlanFits}
 use Rattle.bytes_write.specs.Number.{length-unsigned, length-signed, length_fields}
-use Rattle.bytes_write.specs.ReadBack.{From, after, unsigned-read, signed-read, figures-read}
+use Rattle.bytes_write.specs.ReadBack.{From, after}
+use Rattle.bytes_write.proofs.ReadBack.{unsigned-read, signed-read, figures-read}
 use Rattle.out_layout.specs.RecordSizes.{RecordSizes}
 use Rattle.out_record.specs.RecordLength.{length-record}
 

@@ -18,7 +18,7 @@ use Rattle.rules.specs.Answers.{plan, plan_of, refusal, outcome, outcome_of, ans
 use Rattle.rules.specs.Margins.{Margins}
 use Rattle.rules.specs.Promise.{Promise}
 use Rattle.proof_laws.specs.Lengths.{multipliers-length, sums-length, totals-length}
-use Rattle.proof_margins.specs.Theorem.{margins}
+use Rattle.proof_margins.proofs.Theorem.{margins}
 use Rattle.sheet_figures.specs.declared.Figures.{Figures}
 use Rattle.sheet_figures.specs.Padded.{tabulate-at}
 use Rattle.sheet_figures.specs.Figures.{problem_of}

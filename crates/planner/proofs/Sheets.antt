@@ -15,7 +15,7 @@ use Rattle.rules.specs.Refusals.{Numbered, refuse, ◌otherwise◌, layout_refus
 use Rattle.rules.specs.Answers.{plan_refusal, plan_of, refusal}
 use Rattle.proof_laws.specs.FirstPlace.{given, handed-on}
 use Rattle.proof_laws.specs.Agreeing.{same-refusal, same-plan}
-use Rattle.proof_magnitudes.specs.Accepted.{accepted}
+use Rattle.proof_magnitudes.proofs.Accepted.{accepted}
 use Rattle.sheet_figures.specs.declared.Figures.{Figures}
 use Rattle.sheet_figures.specs.Figures.{figures_of, problem_of, array_whole}
 use Rattle.sheet_figures.specs.Padded.{padded}

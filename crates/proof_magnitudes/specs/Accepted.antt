@@ -1,8 +1,7 @@
 -- What a sheet that is read (T7.5) has: its sizes and its figures in their ranges, and no least amount above the most.
 -- For a figure is 0 or the value of an entry, and the value of every entry passed the test of its range.
-use Rattle.std.specs.Prelude.{◌≡◌, refl, Bool, not, cond, List, T, eqb, ℤ, ◌≤ℤ◌}
+use Rattle.std.specs.Prelude.{◌≡◌, refl, Bool, not, cond, T, eqb, ℤ, ◌≤ℤ◌}
 use Rattle.std.proofs.Math.Bool.{true, false}
-use Rattle.std.proofs.Math.Option.{none}
 use Prim.Native.Nat.{ℕ, zero, suc, ◌+◌, ◌<◌, ◌≤◌, zero-le}
 use Rattle.std.proofs.Common.{le_refl, lt-suc_self, arith}
 use Rattle.std.proofs.Math.Nat.{le_step}
@@ -18,13 +17,13 @@ use Rattle.rules.specs.declared.Kind.TheVariants.{Coefficient, Rhs, Start}
 use Rattle.rules.specs.declared.Range.{Range}
 use Rattle.rules.specs.declared.Shape.{Shape}
 use Rattle.rules.specs.Problem.{Problem}
-use Rattle.rules.specs.Sheet.{Sheet, sheet_of, key_of, row_of, column_of, value_under, table_of, problem_from, problem}
+use Rattle.rules.specs.Sheet.{Sheet, key_of, row_of, column_of, value_under, table_of, problem_from, problem}
 use Rattle.rules.specs.Ranges.{◌from◌to◌, ranges, index_of, range_of, kind_at, in_range}
 use Rattle.rules.specs.Ranges.{between, dimensions_in_range, parameters_in_range}
-use Rattle.rules.specs.Refusals.{value_bad, bad_value, crossed, layout_refusal}
+use Rattle.rules.specs.Refusals.{value_bad, bad_value, crossed}
 use Rattle.proof_laws.specs.Entries.{key-parts, coefficient-kind, rhs-kind, start-kind}
 use Rattle.proof_laws.specs.Agreeing.{Agree}
-use Rattle.proof_laws.specs.Passed.{Passed, passed}
+use Rattle.proof_laws.specs.Passed.{Passed}
 
 -- The ranges of a problem and of its step count k (T2.6 and T3.2), each with both its ends, whether or not a proof
 -- needs them.
@@ -122,7 +121,7 @@ module _ (S : Sheet) {bytes : ℕ} (h : Passed S bytes) where
         figure-cases (λ v. Bnd v a) (bnd-of (pos 0) zero-le)
         (λ v w. let s = rw e at w in bnd-between s.low s.high)
 
-  ranged : Accepted (problem S) S.sizes.steps
+  pub ranged : Accepted (problem S) S.sizes.steps
   unfolding problem_from dimensions_in_range parameters_in_range between kind_at range_of ranges index_of crossed
   ranged =
       let sizes = h.dimensions in
@@ -151,10 +150,6 @@ module _ (S : Sheet) {bytes : ℕ} (h : Passed S bytes) where
             figure-cases (3 + i) (n + 1) (le_refl _) (λ v. v ≤ℤ pos 1073741824) (le_z_yes tt)
             (λ v w. (rw (start-range shape i) at w).high);
       }
-
--- Where none of refusals 1 to 7 is given, the problem of the sheet and its step count lie in their ranges.
-pub accepted : (s : List ℕ) → layout_refusal s ≡ none → Accepted (problem (sheet_of s)) (sheet_of s).sizes.steps
-accepted s h = ranged (sheet_of s) (passed s h)
 
 -- ---- problems that agree lie in the same ranges
 pub accepted-same : {P Q : Problem} {k : ℕ} → Agree P Q → Accepted Q k → Accepted P k

@@ -2,17 +2,17 @@
 -- (T5.6).
 -- The step is any with multipliers of at most 2³⁰ in size and amounts of at most 1,000.
 use Rattle.std.specs.Prelude.{ℕ, ◌*◌, ◌^◌, ◌<◌, ◌≤◌, T, ltb, ℤ, pos, ◌+ℤ◌, ◌*ℤ◌}
-use Rattle.std.proofs.Common.{le_refl, le_trans, lt_of_lt_of_le, arith, lt→ltb, lit≤, SFits}
+use Rattle.std.proofs.Common.{le_refl, le_trans, lt_of_lt_of_le, arith, lt→ltb, SFits}
 use Rattle.std.specs.Int.Signed.{le_z_yes}
 use Rattle.std.specs.Int.{w64}
 use Rattle.proof_integer.specs.Order.{≤ℤ-trans}
-use Rattle.proof_integer.specs.Range.{Bnd, ◌b+◌, ◌b-◌, ◌b*◌, bnd-of, bnd-sfits, bnd-between}
+use Rattle.proof_integer.specs.Range.{Bnd, ◌b-◌, ◌b*◌, bnd-of, bnd-sfits, bnd-between}
 use Rattle.proof_integer.specs.Sum.{sum_to-bnd}
 use Rattle.rules.specs.Notation.{sum_to}
 use Rattle.rules.specs.Problem.{Problem, cost_of, load_of}
 use Rattle.rules.specs.Step.{reduced_cost, residual, dual_value}
 use Rattle.proof_magnitudes.specs.Minimal.{minimal-between, AllMinimal}
-use Rattle.proof_magnitudes.specs.CostRange.{greatest_end, greatest-minimal}
+use Rattle.proof_magnitudes.specs.CostRange.{greatest_end}
 use Rattle.proof_magnitudes.specs.Accepted.{Accepted}
 
 -- |z| ≤ B, and z fits 64 signed bits
@@ -64,15 +64,15 @@ pub record StepMagnitudes (P : Problem) (M x : ℕ → ℤ) : Type 0 where
   pub uncut : (i : ℕ) → i < P.limits → Fits64 (M i +ℤ pos P.numerator *ℤ residual P x i) 66609741824
 
 -- a sum of the first n of some terms, of which there are at most N, each at most B
-over : {N B terms : ℕ} → terms ≤ N → (f : ℕ → ℤ) → ((j : ℕ) → j < terms → Bnd (f j) B)
+pub over : {N B terms : ℕ} → terms ≤ N → (f : ℕ → ℤ) → ((j : ℕ) → j < terms → Bnd (f j) B)
     → (n : ℕ) → n ≤ terms → Bnd (sum_to n f) (N * B)
 over few f h n l = sum_to-bnd n f (le_trans l few) (λ j k. h j (lt_of_lt_of_le k l))
 
 module _ {P : Problem} {k : ℕ} (a : Accepted P k) where
-  scale-bnd : Bnd (pos P.scale) 1024
+  pub scale-bnd : Bnd (pos P.scale) 1024
   scale-bnd = bnd-of (pos P.scale) a.scale_small
 
-  numerator-bnd : Bnd (pos P.numerator) 1024
+  pub numerator-bnd : Bnd (pos P.numerator) 1024
   numerator-bnd = bnd-of (pos P.numerator) a.numerator-small
 
   -- ---- amounts that minimise anything lie between the bounds, and so are at most 1,000
@@ -103,47 +103,3 @@ module _ {P : Problem} {k : ℕ} (a : Accepted P k) where
   residual-bnd x x-in i l =
       over a.materials-few _ (λ j k. a.coefficient-in i l j k b* x-in j k) P.materials (le_refl _)
       b- a.rhs-in i l
-
-  -- ---- the whole step
-  module _ (M x : ℕ → ℤ) (M-in : (i : ℕ) → i < P.limits → Bnd (M i) 1073741824)
-      (x-in : (j : ℕ) → j < P.materials → Bnd (x j) 1000) where
-    -- a sum by itself, and added to what the figure begins with
-    reduced-bnd : (m j : ℕ) → m ≤ P.limits → j < P.materials
-        → Bnd (sum_to m (λ i. M i *ℤ P.coefficient i j)) 17179869184000
-    reduced-bnd m j h l = over a.limits-few _ (λ i k. M-in i k b* a.coefficient-in i k j l) m h
-
-    reduced-part-bnd : (m j : ℕ) → m ≤ P.limits → j < P.materials
-        → Bnd (pos P.scale *ℤ P.cost j +ℤ sum_to m (λ i. M i *ℤ P.coefficient i j)) 17179879424000
-    reduced-part-bnd m j h l = scale-bnd b* a.cost-in j l b+ reduced-bnd m j h l
-
-    dual-bnd : (m : ℕ) → m ≤ P.limits → Bnd (sum_to m (λ i. M i *ℤ residual P x i)) 1099511627776000000
-    dual-bnd m h = over a.limits-few _ (λ i k. M-in i k b* residual-bnd x x-in i k) m h
-
-    step-cost-magnitudes : CostMagnitudes P x 1000
-    step-cost-magnitudes = cost-magnitudes x (lit≤ tt) x-in
-
-    dual-part-bnd : (m : ℕ) → m ≤ P.limits
-        → Bnd (pos P.scale *ℤ cost_of P x +ℤ sum_to m (λ i. M i *ℤ residual P x i)) 1099511955456000000
-    dual-part-bnd m h = step-cost-magnitudes.scaled.magnitude b+ dual-bnd m h
-
-    pub step-magnitudes : StepMagnitudes P M x
-    unfolding reduced_cost dual_value
-    step-magnitudes = record {
-      scaled-cost = λ j l. fit tt (scale-bnd b* a.cost-in j l);
-      reduced-term = λ i j h l. fit tt (M-in i h b* a.coefficient-in i h j l);
-      reduced-sum = λ m j h l. fit tt (reduced-bnd m j h l);
-      reduced-part = λ m j h l. fit tt (reduced-part-bnd m j h l);
-      reduced-cost = λ j l. fit tt (reduced-part-bnd P.limits j (le_refl _) l);
-      amount = λ j l. fit tt (x-in j l);
-      load-term = λ i j h l. fit tt (a.coefficient-in i h j l b* x-in j l);
-      load-sum = λ i n h l. fit tt (over a.materials-few _ (λ j k. a.coefficient-in i h j k b* x-in j k) n l);
-      one-residual = λ i l. fit tt (residual-bnd x x-in i l);
-      step-cost = step-cost-magnitudes;
-      dual-term = λ i l. fit tt (M-in i l b* residual-bnd x x-in i l);
-      dual-sum = λ m l. fit tt (dual-bnd m l);
-      dual-part = λ m l. fit tt (dual-part-bnd m l);
-      dual-value = fit tt (dual-part-bnd P.limits (le_refl _));
-      greatest-cost = cost-magnitudes (greatest_end P) (lit≤ tt) (amounts-bnd (greatest-minimal P));
-      scaled-residual = λ i l. fit tt (numerator-bnd b* residual-bnd x x-in i l);
-      uncut = λ i l. fit tt (M-in i l b+ numerator-bnd b* residual-bnd x x-in i l);
-    }

@@ -1,22 +1,16 @@
--- The lower bound before any step is D times the cheapest cost (T5.3). Where multipliers begin at 0, that is the dual
--- value of step 0: so low is then the largest dual value.
+-- What multipliers of 0 make of a step's figures.
 use Rattle.std.specs.Prelude.{◌≡◌, refl, true, ℕ, zero, suc, ◌*◌, ◌<◌, ◌≤◌, ℤ, negsuc, neg_ℤ, ◌+ℤ◌, ◌*ℤ◌}
 use Rattle.std.proofs.Math.Path.{sym, ap}
 use Rattle.std.proofs.Common.{◌∙◌, zero-le, suc-mul, arith, le-ltb}
-use Rattle.std.proofs.Math.Bool.{cond}
 use Rattle.std.proofs.Math.IntN.{pos, +ℤ_idr, zero-*ℤ}
 use Rattle.std.specs.Int.Signed.{lt_z}
-use Rattle.proof_integer.specs.Order.{max_cases}
 use Rattle.proof_integer.specs.Sum.{sum_to-none, sum_to-cong}
 use Rattle.rules.specs.Notation.{sum_to}
 use Rattle.rules.specs.Problem.{Problem, cost_of}
-use Rattle.rules.specs.Step.{reduced_cost, amount, dual_value, look_at, cheapest_cost, next}
-use Rattle.rules.specs.Run.{starting_state, state_after, look_after}
-use Rattle.proof_magnitudes.specs.CostRange.{cheapest_end}
-use Rattle.proof_magnitudes.specs.Steps.{entering, amounts, entering-first, amounts-are}
+use Rattle.rules.specs.Step.{dual_value}
 
 -- a cost times D has the sign of the cost
-same_sign : (D : ℕ) (c : ℤ) → 1 ≤ D → lt_z (pos D *ℤ c) (pos 0) ≡ lt_z c (pos 0)
+pub same_sign : (D : ℕ) (c : ℤ) → 1 ≤ D → lt_z (pos D *ℤ c) (pos 0) ≡ lt_z c (pos 0)
 same_sign zero c h = absurd (omega arith)
 same_sign (suc D) (pos n) h = le-ltb (suc D * n) 0 zero-le ∙ sym (le-ltb n 0 zero-le)
 same_sign (suc D) (negsuc n) h = below (suc D * suc n) (rw suc-mul (omega arith))
@@ -27,7 +21,7 @@ same_sign (suc D) (negsuc n) h = below (suc D * suc n) (rw suc-mul (omega arith)
 
 module _ (P : Problem) (M : ℕ → ℤ) (at_zero : (i : ℕ) → i < P.limits → M i ≡ pos 0) where
   -- multipliers of 0 add nothing
-  nothing-added : (z : ℤ) (f : ℕ → ℤ) → z +ℤ sum_to P.limits (λ i. M i *ℤ f i) ≡ z
+  pub nothing-added : (z : ℤ) (f : ℕ → ℤ) → z +ℤ sum_to P.limits (λ i. M i *ℤ f i) ≡ z
   nothing-added z f =
       ap (λ s. z +ℤ s) (sum_to-cong P.limits _ (λ _. pos 0) (λ i l. rw (at_zero i l) (zero-*ℤ (f i)))
       ∙ sum_to-none P.limits)
@@ -37,30 +31,3 @@ module _ (P : Problem) (M : ℕ → ℤ) (at_zero : (i : ℕ) → i < P.limits �
   pub value-at-zero : (x : ℕ → ℤ) → dual_value P M x ≡ pos P.scale *ℤ cost_of P x
   unfolding dual_value
   value-at-zero x = nothing-added _ _
-
-  -- and the amounts are those of the cheapest cost
-  amount-at-zero : 1 ≤ P.scale → (j : ℕ) → amount P M j ≡ cheapest_end P j
-  unfolding amount reduced_cost
-  amount-at-zero some j =
-      rw (nothing-added (pos P.scale *ℤ P.cost j) (λ i. P.coefficient i j))
-      (ap (λ b. cond b (P.most j) (P.least j)) (same_sign P.scale (P.cost j) some))
-
--- ---- the run of a problem with starts of 0
-module _ (P : Problem) (some : 1 ≤ P.scale)
-    (unstarted : (i : ℕ) → i < P.limits → P.starting_multiplier i ≡ pos 0) where
-  entering-zero : (i : ℕ) → i < P.limits → entering P 0 i ≡ pos 0
-  entering-zero i l = entering-first P i l ∙ unstarted i l
-
-  -- the dual value of step 0 is D times the cheapest cost
-  pub first-value : (look_after P 0).dual_value ≡ pos P.scale *ℤ cheapest_cost P
-  unfolding look_after look_at cheapest_cost cost_of
-  first-value =
-      value-at-zero P (entering P 0) entering-zero (amounts P 0)
-      ∙ ap (λ z. pos P.scale *ℤ z)
-      (sum_to-cong P.materials _ _ (λ j l.
-      ap (λ x. P.cost j *ℤ x) (amounts-are P 0 j l ∙ amount-at-zero P (entering P 0) entering-zero some j)))
-
-  -- so that it is the lower bound after step 0
-  pub first-bound : (state_after P 1).lower_bound ≡ (look_after P 0).dual_value
-  unfolding state_after starting_state next look_after
-  first-bound = max_cases _ _ (λ low. low ≡ (look_after P 0).dual_value) (λ _. refl) (λ _. sym first-value)

@@ -9,9 +9,8 @@ use Rattle.proof_integer.specs.Order.{max-left}
 use Rattle.proof_integer.specs.Vector.{at-tabulate}
 use Rattle.rules.specs.Notation.{sum_to, at}
 use Rattle.rules.specs.Problem.{Problem}
-use Rattle.rules.specs.Step.{reduced_cost, amount, residual, look_at, moved, next}
+use Rattle.rules.specs.Step.{amount, residual, look_at, moved, next}
 use Rattle.rules.specs.Run.{starting_state, state_after, look_after, closing_value, low_after}
-use Rattle.proof_magnitudes.specs.Minimal.{AllMinimal, rule-minimal}
 
 module _ (P : Problem) where
   -- the multipliers that enter step t, its amounts and its residuals
@@ -41,14 +40,6 @@ module _ (P : Problem) where
   pub leaving : (t i : ℕ) → i < P.limits → entering (suc t) i ≡ moved P (entering t) (residuals t) i
   unfolding state_after next look_after
   leaving t i l = at-tabulate P.limits (moved P (entering t) (residuals t)) i l
-
-  -- ---- its amounts are minimal, by T4.3
-  chosen-minimal : (M : ℕ → ℤ) → AllMinimal P (reduced_cost P M) (amount P M)
-  unfolding amount
-  chosen-minimal M j _ = rule-minimal (reduced_cost P M j) (P.least j) (P.most j)
-
-  pub amounts-minimal : (t : ℕ) → AllMinimal P (reduced_cost P (entering t)) (amounts t)
-  amounts-minimal t j l = rw (amounts-are t j l) (chosen-minimal (entering t) j l)
 
   -- ---- the totals
   pub sums-are : (k j : ℕ) → j < P.materials → at (state_after P k).sums j ≡ sum_to k (λ t. amounts t j)

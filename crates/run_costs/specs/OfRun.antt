@@ -10,9 +10,10 @@ use Rattle.rules.specs.Problem.{Problem, cost_of}
 use Rattle.rules.specs.Run.{state_after, low_after, gap_of}
 use Rattle.rules.specs.Answers.{run_refusal}
 use Rattle.proof_magnitudes.specs.Accepted.{Accepted}
-use Rattle.proof_magnitudes.specs.CostRange.{greatest_end, cheapest_end, cheapest-minimal, greatest-minimal}
+use Rattle.proof_magnitudes.specs.CostRange.{greatest_end, cheapest_end}
+use Rattle.proof_magnitudes.proofs.CostRange.{cheapest-minimal, greatest-minimal}
 use Rattle.proof_magnitudes.specs.Magnitudes.{CostMagnitudes, amounts-bnd, cost-magnitudes}
-use Rattle.proof_magnitudes.specs.RunMagnitudes.{plan-magnitudes}
+use Rattle.proof_magnitudes.proofs.SheetMagnitudes.{plan-magnitudes}
 use Rattle.sheet_figures.specs.declared.Figures.{Figures}
 use Rattle.sheet_figures.specs.Figures.{problem_of}
 use Rattle.run_ends.specs.SignedEnds.{materials_only}

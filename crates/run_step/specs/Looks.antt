@@ -9,7 +9,8 @@ use Rattle.rules.specs.Step.{look_at, infeasible}
 use Rattle.rules.specs.Run.{look_after, closing_value, low_after}
 use Rattle.proof_laws.specs.Lengths.{amounts-length, residuals-length}
 use Rattle.proof_magnitudes.specs.Steps.{entering, amounts, residuals}
-use Rattle.proof_magnitudes.specs.RunMagnitudes.{RunMagnitudes, run-magnitudes}
+use Rattle.proof_magnitudes.specs.RunMagnitudes.{RunMagnitudes}
+use Rattle.proof_magnitudes.proofs.RunMagnitudes.{run-magnitudes}
 use Rattle.sheet_figures.specs.declared.Figures.{Figures}
 use Rattle.sheet_figures.specs.Padded.{padded}
 use Rattle.sheet_figures.specs.Figures.{problem_of}

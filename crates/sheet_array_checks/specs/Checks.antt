@@ -15,7 +15,8 @@ use Rattle.proof_laws.specs.Sizes.{SizesInRange, dimensions}
 use Rattle.proof_laws.specs.FirstPlace.{refuse-yes, refuse-no, given, handed-on, first_cong}
 use Rattle.sheet_arrays.specs.Gathered.{least_at, most-at}
 use Rattle.sheet_arrays.specs.Lengths.{lengths-match}
-use Rattle.sheet_arrays.specs.Tested.{arrays_outside, table-tested}
+use Rattle.sheet_arrays.specs.Tested.{arrays_outside}
+use Rattle.sheet_arrays.proofs.Tested.{table-tested}
 
 -- n and m are small, so that no product wraps
 pub record SmallShape (shape : Shape) : Type 0 where

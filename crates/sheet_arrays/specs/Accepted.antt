@@ -1,18 +1,17 @@
 -- Arrays that are not refused.
-use Rattle.std.specs.Prelude.{◌≡◌, List, ℕ, ◌+◌, ◌*◌, ◌≤◌, ℤ, length}
+use Rattle.std.specs.Prelude.{◌≡◌, List, ℕ, ◌≤◌, ℤ, length}
 use Rattle.std.proofs.Math.Option.{none}
 use Rattle.std.proofs.Math.Nat.{mul-le-mul}
 use native.Mathlib.Omega.{arith}
 use Rattle.std.proofs.lemmas.Bool.{not-false}
 use Rattle.rules.specs.Notation.{at}
 use Rattle.rules.specs.declared.Sizes.{Sizes}
-use Rattle.rules_arrays.specs.Arrays.{Arrays, table_refusal, sheet_from, arrays_refusal}
+use Rattle.rules_arrays.specs.Arrays.{Arrays, table_refusal, arrays_refusal}
 use Rattle.rules_arrays.specs.ReadBack.{present_in, figures_present}
 use Rattle.proof_laws.specs.NotRefused.{otherwise-none, refuse-false}
 use Rattle.proof_laws.specs.Sizes.{SizesInRange, dimensions}
 use Rattle.sheet_arrays.specs.Lengths.{LengthsMatch, lengths-match}
 use Rattle.sheet_arrays.specs.Counted.{counted-few, present-is}
-use Rattle.sheet_arrays.specs.Laid.{sheet-length}
 
 module _ (z : Sizes) (A : Arrays) (accepted : arrays_refusal z A ≡ none) where
   pub lengths-in : LengthsMatch z.shape A
@@ -48,7 +47,3 @@ module _ (z : Sizes) (A : Arrays) (accepted : arrays_refusal z A ≡ none) where
         few-of A.right_hand_sides lengths-in.right_hand_sides,
         few-of A.starts lengths-in.starts,
       )
-
-  -- T13.10
-  pub wanted-is : length (sheet_from z A) ≡ 12 + 6 * figures_present A
-  wanted-is = sheet-length z A shape-in.narrow shape-in.few lengths-in

@@ -10,10 +10,9 @@ use Rattle.rules.specs.declared.Shape.{Shape}
 use Rattle.rules.specs.Sheet.{key_of}
 use Rattle.rules.specs.Encoder.{picked}
 use Rattle.rules_arrays.specs.Arrays.{Arrays}
-use Rattle.rules_arrays.specs.ReadBack.{present_in, figures_present}
+use Rattle.rules_arrays.specs.ReadBack.{present_in}
 use Rattle.sheet_arrays.specs.Runs.{Entry, entry, entry-short, run, run-split}
-use Rattle.sheet_arrays.specs.Lengths.{LengthsMatch}
-use Rattle.sheet_arrays.specs.Listed.{material_entries, limit_entries, limits_entries, entries_of}
+use Rattle.sheet_arrays.specs.Listed.{limit_entries, limits_entries}
 
 -- how many of the first figures are not 0
 unfoldable pub counted : ℕ → (ℕ → ℤ) → ℕ
@@ -59,7 +58,7 @@ module _ (shape : Shape) (A : Arrays) where
   abbrev limits : ℕ → List Entry
   limits i = limits_entries shape.materials A.coefficients A.right_hand_sides A.starts i
 
-  limits-length : (i : ℕ) → length (limits i)
+  pub limits-length : (i : ℕ) → length (limits i)
       ≡ counted (shape.materials * i) (at A.coefficients) + counted i (at A.right_hand_sides)
       + counted i (at A.starts)
   unfolding limits_entries limit_entries
@@ -74,16 +73,3 @@ module _ (shape : Shape) (A : Arrays) where
       let rhs = counted-more (key_of (3 + i) n) i b in
       let start = counted-more (key_of (3 + i) (n + 1)) i s in
       simp (length-append, run_length, limits-length i) (omega (arith, row, rhs, start))
-
-  pub entries-length : LengthsMatch shape A → length (entries_of shape A) ≡ figures_present A
-  unfolding entries_of material_entries figures_present
-  entries-length match =
-      simp (length-append, run_length, limits-length shape.limits) (omega (
-        arith,
-        present-is A.costs match.costs,
-        present-is A.least_amounts match.least_amounts,
-        present-is A.most_amounts match.most_amounts,
-        present-is A.coefficients match.coefficients,
-        present-is A.right_hand_sides match.right_hand_sides,
-        present-is A.starts match.starts,
-      ))

@@ -3,9 +3,9 @@
 --   Gathered   the table of the arrays at each row and column
 --   Listed     the entries of the arrays, row by row
 --   Lengths    the lengths of the arrays
---   Counted    how many entries there are
+--   Counted    how many entries runs and limits have
 --   Tested     refusal 6, array by array
---   Laid       the bytes of the entries, and of the sheet
+--   Laid       the bytes of the entries
 --   Accepted   arrays that are not refused
 pub mod Runs
 pub mod Gathered

@@ -7,7 +7,8 @@ use Rattle.rules.specs.declared.Shape.{Shape}
 use Rattle.rules.specs.Sheet.{Table}
 use Rattle.rules.specs.Refusals.{Numbered, refuse, first_below, crossed, bound_refusal}
 use Rattle.proof_laws.specs.FirstPlace.{first_cong}
-use Rattle.sheet_table.specs.Tabled.{InTable, table_in, tabled, same-figure}
+use Rattle.sheet_table.specs.Tabled.{InTable, table_in, tabled}
+use Rattle.sheet_table.proofs.Tabled.{same-figure}
 
 -- the table has a column for each material
 pub record FewMaterials (n : ℕ) : Type 0 where

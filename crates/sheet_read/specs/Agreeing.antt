@@ -7,7 +7,8 @@ use Rattle.rules.specs.Problem.{Problem}
 use Rattle.rules.specs.Sheet.{sheet_of, problem}
 use Rattle.rules.specs.Refusals.{layout_refusal}
 use Rattle.proof_laws.specs.Agreeing.{Agree}
-use Rattle.proof_magnitudes.specs.Accepted.{Accepted, accepted, accepted-same}
+use Rattle.proof_magnitudes.specs.Accepted.{Accepted, accepted-same}
+use Rattle.proof_magnitudes.proofs.Accepted.{accepted}
 use Rattle.sheet_figures.specs.Figures.{figures_of, coefficients_over, problem_of, in-arrays}
 use Rattle.sheet_read.specs.declared.Reading.{Reading}
 use Rattle.sheet_read.specs.Reading.{figures_unless, coefficients_unless, Reads}

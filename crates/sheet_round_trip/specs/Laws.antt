@@ -5,8 +5,8 @@ use Rattle.std.proofs.Common.{◌∙◌, arith}
 use mathlib.Core.List.{List}
 use Rattle.std.proofs.Math.Option.{none}
 use Rattle.std.proofs.Math.ListN.{length}
-use mir.Syntax.{w8, w32}
-use mir.Val.{Fits, SFits}
+use mir.Syntax.{w8}
+use mir.Val.{Fits}
 use Rattle.proof_laws.specs.FirstPlace.{refuse-no, handed-on}
 use Rattle.proof_laws.specs.NotRefused.{otherwise-none}
 use Rattle.proof_laws.specs.Outputs.{long-enough}
@@ -16,15 +16,16 @@ use Rattle.rules.specs.Sheet.{header_length, sheet_length, sheet_of, table_of, p
 use Rattle.rules.specs.Refusals.{layout_refusal}
 use Rattle.rules_arrays.specs.Arrays.{Arrays, lengths_match, gathered, sheet_from, arrays_refusal, write_refusal}
 use Rattle.rules_arrays.specs.ReadBack.{SameFigures, ReadsAs, arrays_of, unplaced, figures_present}
-use Rattle.sheet_arrays.specs.Accepted.{shape-in, few-present, wanted-is}
-use Rattle.sheet_written.specs.Accepted.{accepted-sizes}
-use Rattle.sheet_written.specs.BytesFit.{sizes-fit, table_fits}
-use Rattle.sheet_written.specs.ReadBack.{SizesFit, read-alone}
-use Rattle.sheet_written.specs.Refused.{written-refused, written-accepted}
-use Rattle.sheet_written.specs.Same.{only-sheet}
+use Rattle.sheet_arrays.specs.Accepted.{shape-in, few-present}
+use Rattle.sheet_arrays.proofs.Accepted.{wanted-is}
+use Rattle.sheet_written.proofs.Accepted.{accepted-sizes}
+use Rattle.sheet_written.specs.ReadBack.{SizesFit}
+use Rattle.sheet_written.proofs.ReadBack.{read-alone}
+use Rattle.sheet_written.proofs.Refused.{written-refused, written-accepted}
+use Rattle.sheet_written.proofs.Same.{only-sheet}
 use Rattle.sheet_round_trip.specs.Fits.{gathered-shaped, accepted-fit, table-refusal, FiguresFit, gathered-fits}
 use Rattle.sheet_round_trip.specs.Figures.{figures-of, figures-at}
-use Rattle.sheet_round_trip.specs.Own.{own-figures, own-lengths, ProblemFits, own-fit}
+use Rattle.sheet_round_trip.specs.Own.{own-figures}
 
 module _ (z : Sizes) (A : Arrays) (room : ℕ) (written : write_refusal z A room ≡ none) where
   accepted : arrays_refusal z A ≡ none
@@ -97,25 +98,3 @@ module _ (s : List ℕ) (bytes : (i : ℕ) → Fits w8 (get_or s i 0)) (read : l
         sizes = refl;
         figures = own-figures (problem (sheet_of s));
       }))
-
-  -- without a refusal, in a buffer that is as long
-  pub again-accepted : (room : ℕ) → length s ≤ room → write_refusal z A room ≡ none
-  unfolding write_refusal problem_from unplaced
-  again-accepted room long =
-      let P = problem (sheet_of s) in
-      let figures : ProblemFits P = record {
-        cost = λ j. fits _;
-        least = λ j. fits _;
-        most = λ j. fits _;
-        coefficient = λ i j. fits _;
-        rhs = λ i. fits _;
-        starting_multiplier = λ i. fits _;
-      } in
-      let arrays : arrays_refusal z A ≡ none =
-      sym (refused-alike z A (own-lengths P) (sizes-fit s bytes) (own-fit P figures))
-      ∙ ap (λ (r : List ℕ). unplaced (layout_refusal r)) written-again
-      ∙ ap unplaced read in
-      handed-on _ arrays ∙ long-enough 8 (sheet_from z A) (ap length written-again) long
-    where
-      fits : (q : ℕ) → SFits w32 (table_of (sheet_of s) q)
-      fits = table_fits s bytes

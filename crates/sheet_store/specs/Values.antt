@@ -7,7 +7,8 @@ use Rattle.rules.specs.declared.Verdict.TheVariants.{Passed, Refused}
 use Rattle.rules.specs.Sheet.{Sheet, row_of, column_of, value_under}
 use Rattle.proof_laws.specs.Entries.{parts-key}
 use Rattle.sheet_header.specs.declared.Header.{Header}
-use Rattle.sheet_table.specs.Tabled.{InTable, place_at, tabled, tabled-set}
+use Rattle.sheet_table.specs.Tabled.{InTable, place_at, tabled}
+use Rattle.sheet_table.proofs.Tabled.{tabled-set}
 use Rattle.sheet_checks.specs.Keys.{Keyed}
 
 -- the keys are good, and nothing is stored yet

@@ -1,3 +1,3 @@
 -- The table of a sheet's figures in an array.
---   Tabled   what stands at each place, and what storing one figure changes
+--   Tabled   its places, its array, and the table of an array
 pub mod Tabled

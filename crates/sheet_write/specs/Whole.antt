@@ -11,8 +11,9 @@ use Rattle.bytes_write.specs.Written.{written, written_at}
 use Rattle.bytes_write.specs.Placed.{length-placed, placed_on}
 use Rattle.sheet_arrays.specs.Runs.{Entry}
 use Rattle.sheet_arrays.specs.Listed.{entries_of}
-use Rattle.sheet_arrays.specs.Counted.{entries-length}
-use Rattle.sheet_arrays.specs.Laid.{key_bytes, value_bytes, size_bytes, length-keys, length-sizes, sheet-laid}
+use Rattle.sheet_arrays.proofs.Counted.{entries-length}
+use Rattle.sheet_arrays.specs.Laid.{key_bytes, value_bytes, size_bytes, length-keys, length-sizes}
+use Rattle.sheet_arrays.proofs.Laid.{sheet-laid}
 use Rattle.sheet_put.specs.Put.{put_entries}
 use Rattle.sheet_write.specs.Ready.{SheetReady}
 

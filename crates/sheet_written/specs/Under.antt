@@ -54,14 +54,3 @@ module _ (S : Sheet) where
       by : (b : Bool) → Q (value_under S e q) → Q (cond b (S.value e) (value_under S e q))
       by true before = h e (lt-suc_self e)
       by false before = before
-
-  -- where keys rise, each entry's value stands under its key
-  pub under-key : (e : ℕ) → RisingKeys S.key e → (i : ℕ) → i < e → value_under S e (S.key i) ≡ S.value i
-  unfolding RisingKeys
-  under-key zero rising i l = absurd (not-suc-le-zero l)
-  under-key (suc e) rising i l = elim (eq-or-lt_of_le (le_of_suc-le-suc l)) [
-    | inl q ↦ rw q (under-here e (S.key e) refl)
-    | inr k ↦
-        let below : S.key i < S.key e = earlier-below S.key (suc e) rising i e k (lt-suc_self e) in
-        under-before e (S.key i) (λ q. omega arith) ∙ under-key e (λ j m. rising j (le_step m)) i k
-  ]

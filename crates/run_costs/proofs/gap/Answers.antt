@@ -19,16 +19,8 @@ minus_64-requires c =
     let scale-is : to_z w64 c.args.scale ≡ pos c.args.scale = small_is w64 {N = 1024} tt c.requires.scale in
     let count-is : to_z w64 c.args.count ≡ pos c.args.count = small_is w64 {N = 4096} tt c.requires.few in
     let cost-is = cost-of-sums _ c.args.scale _ _ c.dot_column_64-sum.ensures in
-    rw (
-      scale-is,
-      to_z-of_z fits,
-      cost-is,
-      to_z-of_z c.requires.scaled,
-      count-is,
-      to_z-of_z c.ranges.low,
-      to_z-of_z c.requires.counted,
-    )
-    c.requires.whole
+    rw (scale-is, to_z-of_z fits, cost-is, to_z-of_z c.requires.scaled)
+    (simp (count-is, to_z-of_z c.ranges.low, to_z-of_z c.requires.counted) c.requires.whole)
 
 pub returns : goal.returns
 unfolding gap_of

@@ -8,8 +8,10 @@ use Rattle.rules.specs.Sheet.{Sheet, header_length, sheet_of, value_under, table
 use Rattle.rules.specs.Refusals.{Numbered, refusal_of, value_refusal, bound_refusal, layout_refusal}
 use Rattle.proof_laws.specs.Agreeing.{Agree}
 use Rattle.proof_laws.specs.FirstPlace.{given, handed-on}
-use Rattle.proof_magnitudes.specs.Accepted.{Accepted, accepted, accepted-same}
-use Rattle.sheet_table.specs.Tabled.{tabled, table_in, tabled-zero, table-agrees}
+use Rattle.proof_magnitudes.specs.Accepted.{Accepted, accepted-same}
+use Rattle.proof_magnitudes.proofs.Accepted.{accepted}
+use Rattle.sheet_table.specs.Tabled.{tabled, table_in, tabled-zero}
+use Rattle.sheet_table.proofs.Tabled.{table-agrees}
 use Rattle.sheet_figures.specs.declared.Figures.{Figures}
 use Rattle.sheet_figures.specs.Figures.{figures_of, coefficients_over, figures-same, coefficients-same}
 use Rattle.sheet_header.specs.declared.Header.{Header}

@@ -13,7 +13,8 @@ use Rattle.rules_arrays.specs.ReadBack.{figures_present}
 use Rattle.proof_laws.specs.FirstPlace.{given, handed-on}
 use Rattle.proof_laws.specs.Outputs.{writes-refused, writes-all, too_short, long-enough}
 use Rattle.bytes_write.specs.Written.{written}
-use Rattle.sheet_arrays.specs.Accepted.{lengths-in, shape-in, few-present, wanted-is}
+use Rattle.sheet_arrays.specs.Accepted.{lengths-in, shape-in, few-present}
+use Rattle.sheet_arrays.proofs.Accepted.{wanted-is}
 use Rattle.sheet_write.specs.Ready.{Short, SheetReady}
 use Rattle.sheet_write.proofs.write_sheet.Goals as goal
 

@@ -1,0 +1,4 @@
+-- What follows from the laws of specs/. It stands here, so that an edit of what it rests on is refused at the
+-- declaration that fails.
+--   Laws      T13.8: writing what a sheet reads as is not refused
+pub mod Laws
