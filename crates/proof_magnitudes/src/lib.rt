@@ -1,2 +1,2 @@
-// How large the figures of a run become: this crate has no code, its content is specs/.
+// How large the figures of a run become: this crate has no code, its content is specs/ and proofs/.
 #![tactic(auto)]

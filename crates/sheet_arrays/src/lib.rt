@@ -1,2 +1,2 @@
-// Theorems only: see specs/Lib.antt.
+// Theorems only: see specs/Lib.antt and proofs/Lib.antt.
 #![tactic(auto)]

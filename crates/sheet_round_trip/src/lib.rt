@@ -1,2 +1,2 @@
-// Theorems about a sheet that is written from a table: this crate has no code, its content is specs/.
+// Theorems about a sheet that is written from a table: this crate has no code, its content is specs/ and proofs/.
 #![tactic(auto)]
