@@ -11,7 +11,7 @@ use Rattle.proof_magnitudes.specs.Minimal.{AllMinimal, choice-minimal, rule-mini
 use Rattle.proof_magnitudes.specs.CostRange.{cheapest_end, greatest_end, InCostRange}
 
 module _ (P : Problem) where
-  -- they minimise the costs c, and −c
+  -- the ends that cost least minimise the costs c, and those that cost most −c
   pub cheapest-minimal : AllMinimal P P.cost (cheapest_end P)
   cheapest-minimal j _ = rule-minimal (P.cost j) (P.least j) (P.most j)
 
@@ -35,7 +35,7 @@ module _ (P : Problem) where
         (simp (neg-*ℤ, sum_to-neg, *ℤ-neg) at
         (sum-least P (λ j. neg_ℤ (P.cost j)) (greatest_end P) greatest-minimal d y within))
 
--- as D times the cost of whole amounts within the bounds does
+-- D times the cost of whole amounts within the bounds lies in the range of the costs
 pub cost-in-range : (P : Problem) (x : ℕ → ℤ) → WithinBounds P (pos 1) x → InCostRange P (pos P.scale *ℤ cost_of P x)
 cost-in-range P x within = record {
   above = *ℤ-mono-l (pos-nonneg P.scale) (rw one-*ℤ at (cost-above P (pos 1) x within));

@@ -1,5 +1,5 @@
--- The theorems of T5.6, and what they need. They stand here and not beside the definitions of specs/ that they are of,
--- so that an edit of what they rest on is refused at the declaration that fails.
+-- How large the figures of a run become (T5.6), of every sheet that is read, and what follows. The definitions are in
+-- specs/; these theorems stand here, so that an edit of what they rest on is refused at the declaration that fails.
 --   Accepted         a sheet that is read has the ranges of `Accepted`
 --   CostRange        no point within the bounds costs less than the cheapest cost, and none more than the greatest
 --   Steps            the amounts of a step are minimal

@@ -40,6 +40,7 @@ chain-not-8 s =
     otherwise-given _ _ _ _ (refuse-given _ _ 8 _ _ (λ long _. not-above (record-short (accepted s h)) long))
     (λ _. run-not-8 (problem (sheet_of s)) (sheet_of s).sizes.steps))
 
+-- ---- the answer
 answer-not-8 : (p : Plan) (met : Option Numbered) → Given 8 ⊥ met → Not8 (outcome_of p met)
 unfolding outcome_of
 answer-not-8 p none g = tt

@@ -15,7 +15,7 @@ use Rattle.proof_magnitudes.specs.Steps.{entering, amounts, entering-first, amou
 use Rattle.proof_magnitudes.specs.Opening.{same_sign, nothing-added, value-at-zero}
 
 module _ (P : Problem) (M : ℕ → ℤ) (at_zero : (i : ℕ) → i < P.limits → M i ≡ pos 0) where
-  -- and the amounts are those of the cheapest cost
+  -- where multipliers are 0, the amounts are those of the cheapest cost
   amount-at-zero : 1 ≤ P.scale → (j : ℕ) → amount P M j ≡ cheapest_end P j
   unfolding amount reduced_cost
   amount-at-zero some j =

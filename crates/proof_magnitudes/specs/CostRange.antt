@@ -1,4 +1,4 @@
--- The cheapest and the greatest cost that the bounds leave (T4.6): no point within them costs less, and none more.
+-- The ends of the cheapest and the greatest cost that the bounds leave (T4.6), and the range between the two.
 use Rattle.std.specs.Prelude.{cond, ℕ, ℤ, pos, ◌*ℤ◌, ◌≤ℤ◌}
 use Rattle.std.specs.Int.Signed.{lt_z}
 use Rattle.rules.specs.Problem.{Problem}

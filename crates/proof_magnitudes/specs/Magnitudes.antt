@@ -1,5 +1,5 @@
--- How large the figures of a step become: each of them, and every sum and product that leads to it, fits 64 signed bits
--- (T5.6).
+-- How large the figures of a step become: the statement that each of them, and every sum and product that leads to it,
+-- fits 64 signed bits (T5.6), and what costs and residuals need for it.
 -- The step is any with multipliers of at most 2³⁰ in size and amounts of at most 1,000.
 use Rattle.std.specs.Prelude.{ℕ, ◌*◌, ◌^◌, ◌<◌, ◌≤◌, T, ltb, ℤ, pos, ◌+ℤ◌, ◌*ℤ◌}
 use Rattle.std.proofs.Common.{le_refl, le_trans, lt_of_lt_of_le, arith, lt→ltb, SFits}

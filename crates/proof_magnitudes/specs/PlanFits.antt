@@ -1,4 +1,4 @@
--- The figures of a plan fit the bytes that a record has for them (T6.1).
+-- Figures of a plan that fit the bytes that a record has for them (T6.1).
 use Rattle.std.specs.Prelude.{◌≡◌, ℕ, ◌<◌, length}
 use Rattle.std.proofs.Common.{SFits}
 use Rattle.std.specs.Int.{w32, w64}

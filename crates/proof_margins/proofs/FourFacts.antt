@@ -3,13 +3,14 @@
 -- A step by (7) and (8) of source document 004 has them, whichever end it takes at a reduced cost of 0, and whatever
 -- multipliers, none of them negative, it enters with.
 use Rattle.std.specs.Prelude.{◌≡◌, ℕ, suc, ◌<◌, ℤ, pos, ◌+ℤ◌, ◌*ℤ◌, ◌≤ℤ◌}
-use Rattle.proof_integer.specs.Order.{max-right}
+use Rattle.std.specs.Int.Signed.{≤ℤ_refl}
+use Rattle.proof_integer.specs.Order.{max_cases, max-right, square-nonneg}
+use Rattle.rules.specs.Notation.{maxℤ}
 use Rattle.rules.specs.Problem.{Problem}
 use Rattle.rules.specs.Step.{reduced_cost, residual, dual_value, moved}
 use Rattle.rules.specs.Margins.{square}
 use Rattle.proof_magnitudes.specs.Minimal.{AllMinimal, WithinBounds}
 use Rattle.proof_margins.specs.Lagrangian.{lagrangian, minimum}
-use Rattle.proof_margins.proofs.CutSize.{cut-size}
 
 pub record FourFacts (P : Problem) (M x M' : ℕ → ℤ) : Type 0 where
   -- F1, the minimum: d·V ≤ the Lagrangian at M and at every point y/d within the bounds
@@ -37,3 +38,7 @@ four-facts P M x M' minimal sign move = record {
   size = λ i l. rw (move i l) (cut-size (M i +ℤ pos P.numerator *ℤ residual P x i));
   sign = sign;
 }
+  where
+    -- cut at 0, a number does not grow in size
+    cut-size : (z : ℤ) → square (maxℤ (pos 0) z) ≤ℤ square z
+    cut-size z = max_cases _ z (λ m. square m ≤ℤ square z) (λ _. ≤ℤ_refl (square z)) (λ _. square-nonneg z)

@@ -8,6 +8,7 @@ use Rattle.proof_integer.specs.Order.{≤ℤ-trans, +ℤ-mono, -ℤ-mono, *ℤ-m
 use Rattle.proof_integer.specs.Ring.{one-*ℤ}
 use Rattle.proof_integer.specs.Solve.{lit, ◌⊕◌, ◌⊖◌, ◌⊗◌, ◌≋◌, ◌≼◌, ◌⊢◌, ringℤ, omegaℤ}
 use Rattle.proof_integer.specs.Sum.{sum_to-mono, sum_to-add, sum_to-neg, sum_to-scale}
+use Rattle.rules.specs.Notation.{sum_to}
 use Rattle.rules.specs.Problem.{Problem, cost_of}
 use Rattle.rules.specs.Step.{residual, dual_value}
 use Rattle.rules.specs.Margins.{square}
@@ -15,7 +16,15 @@ use Rattle.proof_magnitudes.specs.Minimal.{WithinBounds}
 use Rattle.proof_magnitudes.specs.Opening.{value-at-zero}
 use Rattle.proof_margins.specs.Lagrangian.{at-whole}
 use Rattle.proof_margins.proofs.FourFacts.{FourFacts}
-use Rattle.proof_margins.specs.IterateRelation.{norm², growth}
+
+-- ‖v‖², over the limits
+abbrev pub norm² : Problem → (ℕ → ℤ) → ℤ
+norm² P v = sum_to P.limits (λ i. square (v i))
+
+-- what ‖M − ν‖² grows by in a step, at most: 2·p·(V − L) + p²·‖residuals‖²
+abbrev pub growth : (P : Problem) (x : ℕ → ℤ) (value L : ℤ) → ℤ
+growth P x value L =
+    pos 2 *ℤ pos P.numerator *ℤ (value -ℤ L) +ℤ square (pos P.numerator) *ℤ norm² P (residual P x)
 
 -- it rises with V, and falls with L
 pub growth-mono : (P : Problem) (x : ℕ → ℤ) {v v' L L' : ℤ} → v ≤ℤ v' → L' ≤ℤ L → growth P x v L ≤ℤ growth P x v' L'

@@ -1,7 +1,6 @@
 -- T9.3 to T9.7, proved of the definitions of `rules`: every answer has its margins.
 -- The theorem is `margins` of Theorem. Its proof follows source document 004, and is read in this order, after
 -- Lagrangian of specs/:
---   CutSize          for F3, a number that is cut at 0
 --   FourFacts        F1 to F4, all that the proofs use of a step
 --   WeakDuality      weak duality, and what follows for an average's excess and for feasibility
 --   IterateRelation  Lemma 2(a)
@@ -15,9 +14,8 @@
 --   Sharp            the claims are not empty: worked sheets where they are equations, and near claims refuted
 -- Minimal of `proof_magnitudes`, equation (8), comes before these.
 -- Of a step, M are the multipliers that enter it (times D), M' those that leave it, x its amounts, and V its dual
--- value. A point y/d has the whole amounts y over the divisor d.
--- They stand here and not in specs/, so that an edit of what they rest on is refused at the declaration that fails.
-pub mod CutSize
+-- value; in specs/ too. A point y/d has the whole amounts y over the divisor d.
+-- These stand here and not in specs/, so that an edit of what they rest on is refused at the declaration that fails.
 pub mod FourFacts
 pub mod WeakDuality
 pub mod IterateRelation

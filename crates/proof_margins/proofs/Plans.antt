@@ -11,7 +11,7 @@ use Rattle.rules.specs.Margins.{square, PlanMargins}
 use Rattle.proof_magnitudes.specs.Steps.{entering, amounts, residuals, entering-first, residuals-are, StartSign}
 use Rattle.proof_magnitudes.specs.Steps.{sums-are, totals-are}
 use Rattle.proof_margins.proofs.WeakDuality.{excess}
-use Rattle.proof_margins.specs.IterateRelation.{norm²}
+use Rattle.proof_margins.proofs.IterateRelation.{norm²}
 use Rattle.proof_margins.proofs.Violation.{proposition-1a}
 use Rattle.proof_margins.proofs.PrimalCost.{proposition-1b}
 use Rattle.proof_margins.proofs.RunSteps.{steps, low-above-values, low-below-costs}

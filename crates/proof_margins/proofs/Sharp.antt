@@ -17,7 +17,7 @@ use Rattle.rules.specs.Points.{residual-left, residual-right, squares-left, squa
 use Rattle.proof_magnitudes.specs.Minimal.{most, AllMinimal, WithinBounds}
 use Rattle.proof_magnitudes.specs.Steps.{entering}
 use Rattle.proof_margins.specs.Lagrangian.{lagrangian}
-use Rattle.proof_margins.specs.IterateRelation.{norm²}
+use Rattle.proof_margins.proofs.IterateRelation.{norm²}
 use Rattle.proof_margins.proofs.Theorem.{margins}
 
 -- ---- C1, with low 104 and gap −16

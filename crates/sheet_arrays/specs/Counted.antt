@@ -1,4 +1,4 @@
--- How many entries the arrays have: one for each figure that is not 0.
+-- How many entries runs and limits have: one for each figure that is not 0.
 use Rattle.std.specs.Prelude.{◌≡◌, Bool, true, false, not, List, ℤ, length}
 use Rattle.std.proofs.Math.Path.{refl, ap}
 use Rattle.std.proofs.Common.{sym, ◌∙◌, mul-suc, length-append}
@@ -53,7 +53,7 @@ pub present-is : (xs : List ℤ) {n : ℕ} → length xs ≡ n → present_in xs
 unfolding present_in counted
 present-is xs e = rw e
 
--- ---- the entries of the arrays
+-- ---- the entries of the limits
 module _ (shape : Shape) (A : Arrays) where
   abbrev limits : ℕ → List Entry
   limits i = limits_entries shape.materials A.coefficients A.right_hand_sides A.starts i

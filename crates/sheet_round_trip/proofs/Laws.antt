@@ -25,7 +25,7 @@ module _ (s : List ℕ) (bytes : (i : ℕ) → Fits w8 (get_or s i 0)) (read : l
   abbrev A : Arrays
   A = arrays_of (problem (sheet_of s))
 
-  -- without a refusal, in a buffer that is as long
+  -- writing what a sheet reads as is not refused, in a buffer that is as long as the sheet
   pub again-accepted : (room : ℕ) → length s ≤ room → write_refusal z A room ≡ none
   unfolding write_refusal problem_from unplaced
   again-accepted room long =

@@ -7,8 +7,7 @@ use Rattle.rules.specs.declared.Shape.{Shape}
 use Rattle.rules.specs.Sheet.{Table}
 use Rattle.rules.specs.Ranges.{between, most_entries, dimensions_in_range}
 use Rattle.rules.specs.Encoder.{keys_of}
-use Rattle.sheet_written.specs.Shaped.{Shaped}
-use Rattle.sheet_written.proofs.Shaped.{few-keys}
+use Rattle.sheet_written.specs.Shaped.{Shaped, few-keys}
 
 -- what lies in a range is at most its greatest
 at_most : (least greatest x : ℕ) → between least greatest x ≡ true → x ≤ greatest

@@ -9,7 +9,7 @@ use Rattle.rules.specs.Notation.{tabulate}
 use Rattle.rules.specs.Sheet.{header_length, sheet_length, sheet_of, Sheet, Table, table_of}
 use Rattle.rules.specs.Encoder.{laid_out, sizes_with, all_keys, keys_of, written}
 use Rattle.sheet_written.specs.Lists.{map-tabulate}
-use Rattle.sheet_written.proofs.LaidOut.{laid-out-back}
+use Rattle.sheet_written.specs.Layout.{laid-out-back}
 use Rattle.sheet_written.specs.Under.{RisingKeys}
 use Rattle.sheet_written.proofs.Under.{under-key}
 use Rattle.sheet_written.specs.Support.{present}

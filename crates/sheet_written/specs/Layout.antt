@@ -1,6 +1,7 @@
--- Sizes, keys and values laid out: their length, that they are read whatever follows, and the pieces of bytes that are
--- the layout of what is read.
+-- Sizes, keys and values laid out: their length, that they are read whatever follows, and that bytes are the layout of
+-- what is read.
 use Rattle.std.specs.Prelude.{◌≡◌, refl, ℕ, ◌+◌, ◌*◌, ◌<◌, ℤ, length, get_or, drop}
+use Rattle.std.proofs.Math.Path.{ap}
 use Rattle.std.proofs.Common.{◌∙◌, arith, length-append, length-drop, take_all, Fits, SFits}
 use mathlib.Core.List.{List, [], ◌∷◌, ◌++◌, append_assoc, append-nil, flatten}
 use Rattle.std.proofs.Math.Nat.{zero-add}
@@ -12,14 +13,14 @@ use Rattle.rules.specs.Notation.{tabulate}
 use Rattle.rules.specs.Bytes.{unsigned_at, signed_at, unsigned_bytes, signed_bytes, laid}
 use Rattle.rules.specs.Encoder.{laid_out}
 use Rattle.sheet_written.specs.Laid.{laid_from}
-use Rattle.sheet_written.specs.Pieces.{piece, laid-piece, unsigned-piece, signed-piece}
+use Rattle.sheet_written.specs.Pieces.{piece, piece-rest, laid-piece, unsigned-piece, signed-piece}
 
 -- numbers of two bytes
-abbrev pub shorts : List ℕ → List ℕ
+abbrev shorts : List ℕ → List ℕ
 shorts xs = laid (unsigned_bytes 2) xs
 
 -- integers of four bytes
-abbrev pub longs : List ℤ → List ℕ
+abbrev longs : List ℤ → List ℕ
 longs xs = laid (signed_bytes 4) xs
 
 -- each number has two bytes
@@ -71,30 +72,38 @@ module _ (sizes keys : List ℕ) (values : List ℤ) (rest : List ℕ) where
       signed-read 4 (get_or values i d) here h.sfits
 
 -- ---- bytes are the layout of what is read: c sizes, e keys and e values
--- what is read
-module _ (s : List ℕ) (c e : ℕ) where
-  abbrev pub sizes_in : List ℕ
+module _ (s : List ℕ) (bytes : (i : ℕ) → Fits w8 (get_or s i 0)) (c e : ℕ) (long : length s ≡ 2 * c + 6 * e) where
+  -- what is read
+  abbrev sizes_in : List ℕ
   sizes_in = tabulate c (λ i. unsigned_at 2 s (2 * i))
 
-  abbrev pub keys_in : List ℕ
+  abbrev keys_in : List ℕ
   keys_in = tabulate e (λ i. unsigned_at 2 s (2 * c + 2 * i))
 
-  abbrev pub values_in : List ℤ
+  abbrev values_in : List ℤ
   values_in = tabulate e (λ i. signed_at 4 s (2 * c + 2 * e + 4 * i))
 
--- each part is a piece of the bytes
-module _ (s : List ℕ) (bytes : (i : ℕ) → Fits w8 (get_or s i 0)) (c e : ℕ) (long : length s ≡ 2 * c + 6 * e) where
-  pub sizes-piece : shorts (sizes_in s c e) ≡ piece (2 * c) 0 s
+  -- each part is a piece of the bytes
+  sizes-piece : shorts sizes_in ≡ piece (2 * c) 0 s
   sizes-piece =
       laid-piece (unsigned_bytes 2) 2 0 s _ c
       (λ i l. rw zero-add (unsigned-piece s bytes 2 (2 * i) (omega arith)))
 
-  pub keys-piece : shorts (keys_in s c e) ≡ piece (2 * e) (2 * c) s
+  keys-piece : shorts keys_in ≡ piece (2 * e) (2 * c) s
   keys-piece =
       laid-piece (unsigned_bytes 2) 2 (2 * c) s _ e (λ i l. unsigned-piece s bytes 2 (2 * c + 2 * i) (omega arith))
 
-  pub values-piece : longs (values_in s c e) ≡ drop (2 * c + 2 * e) s
-  values-piece =
-      laid-piece (signed_bytes 4) 4 (2 * c + 2 * e) s _ e
-      (λ i l. signed-piece s bytes 4 (2 * c + 2 * e + 4 * i) (omega arith))
-      ∙ take_all (4 * e) (drop (2 * c + 2 * e) s) (omega (arith, length-drop (2 * c + 2 * e) s))
+  -- and together they are the bytes
+  pub laid-out-back : laid_out sizes_in keys_in values_in ≡ s
+  unfolding laid_out
+  laid-out-back =
+      append_assoc (shorts sizes_in) (shorts keys_in) (longs values_in)
+      ∙ (λ t. sizes-piece t ++ (keys-piece t ++ values-piece t))
+      ∙ ap (λ (r : List ℕ). piece (2 * c) 0 s ++ r) (piece-rest (2 * e) (2 * c) s)
+      ∙ rw zero-add at (piece-rest (2 * c) 0 s)
+    where
+      values-piece : longs values_in ≡ drop (2 * c + 2 * e) s
+      values-piece =
+          laid-piece (signed_bytes 4) 4 (2 * c + 2 * e) s _ e
+          (λ i l. signed-piece s bytes 4 (2 * c + 2 * e + 4 * i) (omega arith))
+          ∙ take_all (4 * e) (drop (2 * c + 2 * e) s) (omega (arith, length-drop (2 * c + 2 * e) s))
