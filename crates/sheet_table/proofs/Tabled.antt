@@ -11,7 +11,7 @@ use Rattle.proof_integer.specs.Tabulated.{tabulate-set}
 use Rattle.sheet_table.specs.Tabled.{InTable, place_at, key_in, table_in, table_at, tabled, place-below}
 
 module _ {row column : ℕ} (h : InTable row column) where
-  -- the key of its place
+  -- the key of the place of a row and a column
   key_back : key_in (place_at row column) ≡ key_of row column
   key_back = omega (arith, h.column-in)
 

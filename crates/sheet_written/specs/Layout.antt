@@ -83,7 +83,7 @@ module _ (s : List ℕ) (bytes : (i : ℕ) → Fits w8 (get_or s i 0)) (c e : �
   abbrev values_in : List ℤ
   values_in = tabulate e (λ i. signed_at 4 s (2 * c + 2 * e + 4 * i))
 
-  -- each part is a piece of the bytes
+  -- the sizes are a piece of the bytes, and so are the keys
   sizes-piece : shorts sizes_in ≡ piece (2 * c) 0 s
   sizes-piece =
       laid-piece (unsigned_bytes 2) 2 0 s _ c
@@ -102,6 +102,7 @@ module _ (s : List ℕ) (bytes : (i : ℕ) → Fits w8 (get_or s i 0)) (c e : �
       ∙ ap (λ (r : List ℕ). piece (2 * c) 0 s ++ r) (piece-rest (2 * e) (2 * c) s)
       ∙ rw zero-add at (piece-rest (2 * c) 0 s)
     where
+      -- the values are one too
       values-piece : longs values_in ≡ drop (2 * c + 2 * e) s
       values-piece =
           laid-piece (signed_bytes 4) 4 (2 * c + 2 * e) s _ e

@@ -1,5 +1,5 @@
--- A sheet that is written from sizes and a table. What a reader looks for is listed in proofs/Lib; here is what that
--- stands on.
+-- A sheet that is written from sizes and a table. What a reader looks for is listed in proofs/Lib, but for Shaped and
+-- BytesFit here; the others are what these stand on.
 --   Lists        lists that grow, rise, or are given place by place
 --   Picked       the numbers below n that pass a test
 --   Laid         numbers laid one after the other

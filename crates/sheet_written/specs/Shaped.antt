@@ -70,7 +70,7 @@ module _ (shape : Shape) (T : Table) (narrow : shape.materials ≤ 32) (few : sh
       m (le_refl m) in
       rw (picked-skip ((3 + m) * 64) all_keys test (omega arith) past) (omega arith)
     where
-      -- the figure there is 0
+      -- where the shape has no figure, it is 0
       gap : (row c : ℕ) → row < 19 → c < 64 → no_figure_at shape row c ≡ true → present (T (key_of row c)) ≡ false
       gap row c l k h =
           let (row_back, column-back) = key-parts row c k in
