@@ -1,5 +1,6 @@
--- What is promised of a sheet that is written from plain arrays: T13.7 to T13.10.
-use Rattle.std.specs.Prelude.{◌≡◌, refl, true, not, ℕ, ◌+◌, ◌*◌, ◌≤◌, get_or}
+-- What is promised of a sheet that is written from plain arrays: T13.7 to T13.10, but for the second half of T13.8,
+-- which stands in proofs/Laws.
+use Rattle.std.specs.Prelude.{◌≡◌, true, not, ℕ, ◌+◌, ◌*◌, ◌≤◌, get_or}
 use Rattle.std.proofs.Math.Path.{sym, ap, subst}
 use Rattle.std.proofs.Common.{◌∙◌, arith}
 use mathlib.Core.List.{List}
@@ -12,10 +13,10 @@ use Rattle.proof_laws.specs.NotRefused.{otherwise-none}
 use Rattle.proof_laws.specs.Outputs.{long-enough}
 use Rattle.rules.specs.declared.Sizes.{Sizes}
 use Rattle.rules.specs.Ranges.{most_entries, largest}
-use Rattle.rules.specs.Sheet.{header_length, sheet_length, sheet_of, table_of, problem_from, problem}
+use Rattle.rules.specs.Sheet.{header_length, sheet_length, sheet_of, table_of, problem_from}
 use Rattle.rules.specs.Refusals.{layout_refusal}
 use Rattle.rules_arrays.specs.Arrays.{Arrays, lengths_match, gathered, sheet_from, arrays_refusal, write_refusal}
-use Rattle.rules_arrays.specs.ReadBack.{SameFigures, ReadsAs, arrays_of, unplaced, figures_present}
+use Rattle.rules_arrays.specs.ReadBack.{SameFigures, ReadsAs, unplaced, figures_present}
 use Rattle.sheet_arrays.specs.Accepted.{shape-in, few-present}
 use Rattle.sheet_arrays.proofs.Accepted.{wanted-is}
 use Rattle.sheet_written.proofs.Accepted.{accepted-sizes}
@@ -25,7 +26,6 @@ use Rattle.sheet_written.proofs.Refused.{written-refused, written-accepted}
 use Rattle.sheet_written.proofs.Same.{only-sheet}
 use Rattle.sheet_round_trip.specs.Fits.{gathered-shaped, accepted-fit, table-refusal, FiguresFit, gathered-fits}
 use Rattle.sheet_round_trip.specs.Figures.{figures-of, figures-at}
-use Rattle.sheet_round_trip.specs.Own.{own-figures}
 
 module _ (z : Sizes) (A : Arrays) (room : ℕ) (written : write_refusal z A room ≡ none) where
   accepted : arrays_refusal z A ≡ none
@@ -82,19 +82,3 @@ single-sheet z A s bytes reads =
     let figures = subst (λ (y : Sizes). SameFigures (problem_from y U) A) reads.sizes reads.figures in
     only-sheet z (gathered z.shape A) s (gathered-shaped z.shape A) bytes reads.accepted reads.sizes
     (figures-at z A U narrow figures)
-
--- T13.8: so writing what a sheet reads as gives the sheet back
-module _ (s : List ℕ) (bytes : (i : ℕ) → Fits w8 (get_or s i 0)) (read : layout_refusal s ≡ none) where
-  abbrev z : Sizes
-  z = (sheet_of s).sizes
-
-  abbrev A : Arrays
-  A = arrays_of (problem (sheet_of s))
-
-  pub written-again : sheet_from z A ≡ s
-  written-again =
-      sym (single-sheet z A s bytes (record {
-        accepted = read;
-        sizes = refl;
-        figures = own-figures (problem (sheet_of s));
-      }))
