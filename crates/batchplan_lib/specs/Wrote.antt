@@ -1,7 +1,7 @@
 -- What writing a sheet from plain arrays gives, in plain numbers, as C and Rust get it.
-use Rattle.std.specs.Prelude.{◌≡◌, List, ℕ, length}
+use Rattle.std.specs.Prelude.{◌≡◌, List, ℕ, length, Result}
 use Rattle.std.proofs.Common.{ap, ◌∙◌}
-use Rattle.rules.specs.declared.Output.{Output}
+use Rattle.rules.specs.declared.Refusal.{Refusal}
 use Rattle.rules.specs.declared.Sizes.{Sizes}
 use Rattle.rules.specs.Output.{Writing, wrote, refused, writing, writing_of, lent_after, Writes}
 use Rattle.rules_arrays.specs.Arrays.{Arrays, sheet_from, write_refusal}
@@ -23,7 +23,7 @@ pub record Wrote (z : Sizes) (A : Arrays) (lent after : List ℕ) (number beside
   pub buffer : after ≡ lent_after (sheet_from z A) lent (writing_of (sheet_from z A) (write_refusal z A (length lent)))
 
 -- it is what the writer's answer gives
-pub wrote_of : (z : Sizes) (A : Arrays) {lent after : List ℕ} {result : Output} {number beside : ℕ}
+pub wrote_of : (z : Sizes) (A : Arrays) {lent after : List ℕ} {result : Result ℕ Refusal} {number beside : ℕ}
     → Writes (sheet_from z A) (write_refusal z A (length lent)) lent after result
     → record { number = number; beside = beside } ≡ pair_of (writing result) → Wrote z A lent after number beside
 wrote_of z A {lent} w pair = record {

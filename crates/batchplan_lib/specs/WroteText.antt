@@ -1,7 +1,7 @@
 -- What writing the free MPS text of a sheet gives, in plain numbers, as C and Rust get it.
-use Rattle.std.specs.Prelude.{◌≡◌, List, ℕ, length}
+use Rattle.std.specs.Prelude.{◌≡◌, List, ℕ, length, Result}
 use Rattle.std.proofs.Common.{ap, ◌∙◌}
-use Rattle.rules.specs.declared.Output.{Output}
+use Rattle.rules.specs.declared.Refusal.{Refusal}
 use Rattle.rules.specs.Output.{writing, writing_of, lent_after, Writes}
 use Rattle.rules_mps.specs.Mps.{mps_of, mps_refusal}
 use Rattle.batchplan_lib.specs.Wrote.{pair_of}
@@ -16,7 +16,7 @@ pub record WroteText (sheet lent after : List ℕ) (number beside : ℕ) : Type 
   pub buffer : after ≡ lent_after (mps_of sheet) lent (writing_of (mps_of sheet) (mps_refusal sheet (length lent)))
 
 -- it is what the writer's answer gives
-pub wrote_text-of : (sheet : List ℕ) {lent after : List ℕ} {result : Output} {number beside : ℕ}
+pub wrote_text-of : (sheet : List ℕ) {lent after : List ℕ} {result : Result ℕ Refusal} {number beside : ℕ}
     → Writes (mps_of sheet) (mps_refusal sheet (length lent)) lent after result
     → record { number = number; beside = beside } ≡ pair_of (writing result) → WroteText sheet lent after number beside
 wrote_text-of sheet {lent} w pair = record {

@@ -17,9 +17,8 @@ ghost use Rattle.batchplan_lib.specs.WroteText.{WroteText};
 use out_layout::LONGEST;
 use out_listing::write_listing;
 use out_mps::write_mps;
-use out_refusals::number_of;
 use planner::plan;
-use rules::{Answer, Output, Shape, Sizes};
+use rules::{PlanFigures, Refusal, Shape, Sizes};
 use sheet_write::write_sheet;
 
 // The version of the rules that this library follows.
@@ -36,24 +35,24 @@ struct Numbers {
 }
 
 // The numbers of an answer. Those that it does not have are 0.
-fn numbers_of(answer: Answer) -> Numbers
-    ensures { result ≡ numbers_of (outcome answer) }
-{
-    match answer {
-        Answer::Plan { low, gap } => Numbers {
-            number: 0,
-            place: 0,
-            low: low,
-            gap: gap,
-        },
-        Answer::Refused(refusal) => {
-            let cause = refusal.cause;
-            Numbers {
-                number: number_of(cause),
+impl From<Result<PlanFigures, Refusal>> for Numbers {
+    ghost from_gives = { λ answer numbers. numbers ≡ numbers_of (outcome answer) };
+
+    #[tactic(auto, unfolding(crate::specs::Called::numbers_of, rules::specs::Answers::outcome, rules::specs::Refusals::numbered))]
+    fn from(answer: Result<PlanFigures, Refusal>) -> Numbers {
+        match answer {
+            Ok(plan) => Numbers {
+                number: 0,
+                place: 0,
+                low: plan.low,
+                gap: plan.gap,
+            },
+            Err(refusal) => Numbers {
+                number: usize::from(refusal.cause),
                 place: refusal.place,
                 low: 0,
                 gap: 0,
-            }
+            },
         }
     }
 }
@@ -67,20 +66,20 @@ struct Pair {
 }
 
 // The numbers of what writing gives.
-fn pair_of(output: Output) -> Pair
-    ensures { result ≡ pair_of (writing output) }
-{
-    match output {
-        Output::Wrote(length) => Pair {
-            number: 0,
-            beside: length,
-        },
-        Output::Refused(refusal) => {
-            let cause = refusal.cause;
-            Pair {
-                number: number_of(cause),
+impl From<Result<usize, Refusal>> for Pair {
+    ghost from_gives = { λ output pair. pair ≡ pair_of (writing output) };
+
+    #[tactic(auto, unfolding(crate::specs::Wrote::pair_of, rules::specs::Output::writing, rules::specs::Refusals::numbered))]
+    fn from(output: Result<usize, Refusal>) -> Pair {
+        match output {
+            Ok(length) => Pair {
+                number: 0,
+                beside: length,
+            },
+            Err(refusal) => Pair {
+                number: usize::from(refusal.cause),
                 beside: refusal.place,
-            }
+            },
         }
     }
 }
@@ -97,13 +96,10 @@ pub fn batchplan_plan(
     ensures { Called sheet.now «record».old «record».new
         result place.new low.new gap.new }
 {
-    let answer = plan(sheet, record);
-    let numbers = numbers_of(answer);
-    let its_low = numbers.low;
-    let its_gap = numbers.gap;
+    let numbers = Numbers::from(plan(sheet, record));
     *place = numbers.place;
-    *low = its_low;
-    *gap = its_gap;
+    *low = numbers.low;
+    *gap = numbers.gap;
     numbers.number
 }
 
@@ -150,8 +146,7 @@ pub fn batchplan_write_sheet(
         scale: d,
         steps: k,
     };
-    let output = write_sheet(sizes, cost, least, most, a, b, start, sheet);
-    let pair = pair_of(output);
+    let pair = Pair::from(write_sheet(sizes, cost, least, most, a, b, start, sheet));
     *length_or_place = pair.beside;
     pair.number
 }
@@ -162,8 +157,7 @@ pub fn batchplan_write_sheet(
 pub fn batchplan_mps(sheet: &[u8], text: &mut [u8], length_or_place: &mut usize) -> usize
     ensures { WroteText sheet.now text.old text.new result length_or_place.new }
 {
-    let output = write_mps(sheet, text);
-    let told = pair_of(output);
+    let told = Pair::from(write_mps(sheet, text));
     *length_or_place = told.beside;
     told.number
 }

@@ -20,7 +20,7 @@ use out_lines::put_refusal;
 use out_mps::write_mps;
 use out_numbers::put_number;
 use out_text::{put_byte, put_bytes};
-use rules::Output;
+use rules::Refusal;
 use std::io::Print;
 
 // The room for the input.
@@ -40,10 +40,10 @@ fn show_length(line: &mut [u8], length: usize) -> usize {
 }
 
 // The line of an answer.
-fn show_output(line: &mut [u8], output: Output) -> usize {
+fn show_output(line: &mut [u8], output: Result<usize, Refusal>) -> usize {
     match output {
-        Output::Wrote(length) => show_length(line, length),
-        Output::Refused(refusal) => put_refusal(line, refusal),
+        Ok(length) => show_length(line, length),
+        Err(refusal) => put_refusal(line, refusal),
     }
 }
 

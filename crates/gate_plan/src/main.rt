@@ -18,9 +18,8 @@ use bytes_read::size_at;
 use filter::read_input;
 use gate_frames::{Frame, frame_at, write_line};
 use out_numbers::{put_integer, put_number};
-use out_refusals::number_of;
 use out_text::{put_byte, put_bytes};
-use rules::{Answer, Refusal};
+use rules::{PlanFigures, Refusal};
 use std::io::Print;
 
 // The room for the input.
@@ -46,16 +45,16 @@ fn show_plan(line: &mut [u8], low: i64, gap: i64) -> usize {
 fn show_refused(line: &mut [u8], refusal: Refusal) -> usize {
     let cause = refusal.cause;
     let named = put_bytes(line, 0, b"refused ");
-    let numbered = put_number(line, named, number_of(cause) as u64);
+    let numbered = put_number(line, named, usize::from(cause) as u64);
     let parted = put_byte(line, numbered, b' ');
     put_number(line, parted, refusal.place as u64)
 }
 
 // An answer.
-fn show_answer(line: &mut [u8], answer: Answer) -> usize {
+fn show_answer(line: &mut [u8], answer: Result<PlanFigures, Refusal>) -> usize {
     match answer {
-        Answer::Plan { low, gap } => show_plan(line, low, gap),
-        Answer::Refused(refusal) => show_refused(line, refusal),
+        Ok(plan) => show_plan(line, plan.low, plan.gap),
+        Err(refusal) => show_refused(line, refusal),
     }
 }
 

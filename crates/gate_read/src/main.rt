@@ -15,9 +15,8 @@ use gate_frames::{Frame, frame_at, write_line};
 use out_lines::put_refusal;
 use out_numbers::{put_integer, put_number};
 use out_text::{put_byte, put_bytes};
-use rules::Verdict;
+use rules::Refusal;
 use sheet_figures::Figures;
-use sheet_read::Reading;
 use std::io::Print;
 
 // The room for the input.
@@ -106,11 +105,14 @@ fn show_accepted(line: &mut [u8], f: Figures, coefficient: &[i16; 512]) -> usize
 }
 
 // The line of a reading. That of a refused sheet is its listing's.
-fn show_reading(line: &mut [u8], reading: Reading, coefficient: &[i16; 512]) -> usize {
-    let verdict = reading.verdict;
-    match verdict {
-        Verdict::Passed => show_accepted(line, reading.figures, coefficient),
-        Verdict::Refused(refusal) => put_refusal(line, refusal),
+fn show_reading(
+    line: &mut [u8],
+    reading: Result<Figures, Refusal>,
+    coefficient: &[i16; 512],
+) -> usize {
+    match reading {
+        Ok(figures) => show_accepted(line, figures, coefficient),
+        Err(refusal) => put_refusal(line, refusal),
     }
 }
 

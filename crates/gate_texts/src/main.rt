@@ -14,7 +14,7 @@ use bytes_read::size_at;
 use filter::read_input;
 use gate_frames::{Frame, frame_at, write_line};
 use out_listing::write_listing;
-use rules::{Answer, Cause, Refusal};
+use rules::{Cause, PlanFigures, Refusal};
 use std::io::Print;
 
 // The room for the input.
@@ -24,7 +24,7 @@ const INPUT: usize = 65536;
 const ROOM: usize = 4096;
 
 // The text of an answer and its record.
-fn print_text(output: &impl Print, answer: Answer, record: &[u8]) {
+fn print_text(output: &impl Print, answer: Result<PlanFigures, Refusal>, record: &[u8]) {
     let mut out = [0u8; ROOM];
     let end = write_listing(answer, record, &mut out);
     write_line(output, &out, end);
@@ -32,12 +32,8 @@ fn print_text(output: &impl Print, answer: Answer, record: &[u8]) {
 
 // The texts of a plan, which takes its figures out of the record, and of a refusal.
 fn print_texts(output: &impl Print, record: &[u8], place: usize) {
-    print_text(output, Answer::Plan { low: 0, gap: 0 }, record);
-    let refusal = Refusal {
-        cause: Cause::Buffer,
-        place: place,
-    };
-    print_text(output, Answer::Refused(refusal), record);
+    print_text(output, Ok(PlanFigures { low: 0, gap: 0 }), record);
+    print_text(output, Err(Cause::Buffer.at(place)), record);
 }
 
 // The unsigned number in the 8 bytes from place `at` on: four numbers of 2 bytes.

@@ -22,9 +22,8 @@ use bytes_read::{signed_32, size_at};
 use filter::read_input;
 use gate_frames::{Frame, frame_at, write_line};
 use out_numbers::put_number;
-use out_refusals::number_of;
 use out_text::{put_byte, put_bytes};
-use rules::{Output, Refusal, Shape, Sizes};
+use rules::{Refusal, Shape, Sizes};
 use std::io::Print;
 
 // The room for the input.
@@ -54,16 +53,16 @@ fn show_length(line: &mut [u8], length: usize) -> usize {
 fn show_refused(line: &mut [u8], refusal: Refusal) -> usize {
     let cause = refusal.cause;
     let named = put_bytes(line, 0, b"refused ");
-    let numbered = put_number(line, named, number_of(cause) as u64);
+    let numbered = put_number(line, named, usize::from(cause) as u64);
     let parted = put_byte(line, numbered, b' ');
     put_number(line, parted, refusal.place as u64)
 }
 
 // What writing gives.
-fn show_output(line: &mut [u8], output: Output) -> usize {
+fn show_output(line: &mut [u8], output: Result<usize, Refusal>) -> usize {
     match output {
-        Output::Wrote(length) => show_length(line, length),
-        Output::Refused(refusal) => show_refused(line, refusal),
+        Ok(length) => show_length(line, length),
+        Err(refusal) => show_refused(line, refusal),
     }
 }
 
@@ -95,7 +94,7 @@ fn fill(buffer: &mut [u8]) {
 }
 
 // Prints the line of a case.
-fn print_output(output: &impl Print, answer: Output, buffer: &[u8]) {
+fn print_output(output: &impl Print, answer: Result<usize, Refusal>, buffer: &[u8]) {
     let mut line = [0u8; ROOM];
     let answered = show_output(&mut line, answer);
     let parted = put_byte(&mut line, answered, b' ');

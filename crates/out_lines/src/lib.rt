@@ -9,7 +9,6 @@ ghost use Rattle.out_text.specs.Text.{Puts};
 ghost use Rattle.out_lines.specs.Lines.{line_of, Begins};
 
 use out_numbers::{put_integer, put_number};
-use out_refusals::number_of;
 use out_text::{put_byte, put_bytes};
 use rules::Refusal;
 
@@ -58,7 +57,7 @@ pub fn put_refusal(d: &mut [u8], refusal: Refusal) -> usize
 {
     let cause = refusal.cause;
     let named = put_bytes(d, 0, b"refused");
-    let numbered = put_size(d, named, number_of(cause));
+    let numbered = put_size(d, named, usize::from(cause));
     let placed = put_size(d, numbered, refusal.place);
     put_byte(d, placed, b'\n')
 }

@@ -1,10 +1,11 @@
 -- What can be read out of the answer to a sheet and the buffer afterwards is the listing of the sheet.
-use Rattle.std.specs.Prelude.{◌≡◌, List, ℕ, length}
+use Rattle.std.specs.Prelude.{◌≡◌, List, ℕ, length, Result}
 use Rattle.std.proofs.Math.Path.{refl}
 use Rattle.std.proofs.Common.{ap, ◌∙◌}
 use Rattle.std.proofs.Math.Option.{Option, none, some}
 use Rattle.std.proofs.Math.ListN.{drop}
-use Rattle.rules.specs.declared.Answer.{Answer}
+use Rattle.rules.specs.declared.Refusal.{Refusal}
+use Rattle.rules.specs.declared.PlanFigures.{PlanFigures}
 use Rattle.rules.specs.Sheet.{sheet_of}
 use Rattle.rules.specs.Run.{Plan, plan_after}
 use Rattle.rules.specs.Record.{record_length}
@@ -43,7 +44,7 @@ module _ (s lent : List ℕ) where
   listing-of-record = by (refusal (sheet_of s) (layout_refusal s) (length lent)) refl
 
 -- What a planned sheet's answer and record say is the listing of the sheet.
-pub listing-is : {s lent after : List ℕ} {result : Answer} {room : ℕ} → Promise s lent after result
+pub listing-is : {s lent after : List ℕ} {result : Result PlanFigures Refusal} {room : ℕ} → Promise s lent after result
     → length lent ≡ room → text_from (outcome result) after ≡ listing s room
 listing-is {s} {lent} p long =
     (λ k. text_from (p.answered k) (p.buffer k)) ∙ listing-of-record s lent ∙ ap (listing s) long

@@ -9,25 +9,25 @@ ghost use Rattle.out_lines.specs.Lines.{Begins};
 use out_lines::put_refusal;
 use out_plan::put_record;
 use out_text::put_bytes;
-use rules::Answer;
+use rules::{PlanFigures, Refusal};
 
 // The room for a text. It takes every text.
 const ROOM: usize = 4096;
 
 // The text of an answer and its record.
-fn put_answer(d: &mut [u8], answer: Answer, record: &[u8]) -> usize
+fn put_answer(d: &mut [u8], answer: Result<PlanFigures, Refusal>, record: &[u8]) -> usize
     ensures { Begins (text_from (outcome answer) «record».now) d.old d.new result }
 {
     match answer {
-        Answer::Plan { low: _, gap: _ } => put_record(d, record),
-        Answer::Refused(refusal) => put_refusal(d, refusal),
+        Ok(_) => put_record(d, record),
+        Err(refusal) => put_refusal(d, refusal),
     }
 }
 
 // Writes the text of an answer and its record to the start of `out`, and answers its length. A text has at most 4,096
 // bytes. Where it is longer than `out`, or the answer is a plan and the record's bytes hold no record, nothing is
 // written and the answer is 0.
-pub fn write_listing(answer: Answer, record: &[u8], out: &mut [u8]) -> usize
+pub fn write_listing(answer: Result<PlanFigures, Refusal>, record: &[u8], out: &mut [u8]) -> usize
     ensures listed { Listed (text_from (outcome answer) «record».now)
         out.old out.new result }
     ensures record_len_bound { length (text_from (outcome answer) «record».now) ≤ 4096 }

@@ -1,10 +1,9 @@
 -- A buffer that takes every text, and what is printed out of it (T14.8).
 use Rattle.std.proofs.Math.Path.{◌≡◌, refl, ap, subst}
 use Rattle.std.proofs.Common.{sym, ◌∙◌, le_trans, arith}
-use Rattle.std.specs.Prelude.{List, ◌++◌, ℕ, ◌≤◌}
+use Rattle.std.specs.Prelude.{List, ◌++◌, ℕ, ◌≤◌, Ok, Err}
 use Rattle.std.proofs.Math.Option.{Option, none, some}
 use Rattle.std.proofs.Math.ListN.{length, drop}
-use Rattle.rules.specs.declared.Output.{Output}
 use Rattle.rules.specs.declared.Refusal.{Refusal}
 use Rattle.rules.specs.Refusals.{Numbered, numbered, ◌otherwise◌, layout_refusal}
 use Rattle.rules.specs.Output.{wrote, refused, writing, writing_of, lent_after, short_buffer, Writes}
@@ -28,7 +27,7 @@ module _ (s : List ℕ) where
 
   module _ {lent after : List ℕ} (enough : longest_mps ≤ length lent) where
     -- where the text was written it is what is printed
-    pub text-printed : {n : ℕ} → Writes (mps_of s) (mps_refusal s (length lent)) lent after (Output.Wrote n)
+    pub text-printed : {n : ℕ} → Writes (mps_of s) (mps_refusal s (length lent)) lent after (Ok n)
         → Listed (mps_printed s) lent after n × (length (mps_printed s) ≤ longest_mps)
     unfolding mps_printed mps_of printed_of writing writing_of lent_after
     text-printed {n} w =
@@ -44,7 +43,7 @@ module _ (s : List ℕ) where
 
     -- where it was refused, its line is put over the buffer as lent, and is what is printed
     pub refusal-printed : {r : Refusal} {after' : List ℕ} {n : ℕ}
-        → Writes (mps_of s) (mps_refusal s (length lent)) lent after (Output.Refused r)
+        → Writes (mps_of s) (mps_refusal s (length lent)) lent after (Err r)
         → Begins (refusal_text (numbered r)) after after' n
         → Listed (mps_printed s) lent after' n × (length (mps_printed s) ≤ longest_mps)
     unfolding mps_printed printed_of writing writing_of lent_after longest_mps

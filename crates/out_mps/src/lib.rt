@@ -11,7 +11,7 @@ ghost use Rattle.sheet_figures.specs.Figures.{problem_of};
 use out_lines::put_refusal;
 use out_mps_text::put_text;
 use out_text::put_bytes;
-use rules::{Cause, Output, Refusal, Verdict};
+use rules::{Cause, Refusal};
 use sheet_figures::Figures;
 use sheet_read::read_sheet;
 
@@ -19,7 +19,7 @@ use sheet_read::read_sheet;
 pub const LONGEST: usize = 9248;
 
 // The text by way of a buffer of its own, which takes every text, to a buffer that may be too short.
-fn write_copy(f: Figures, coefficient: &[i16; 512], text: &mut [u8]) -> Output
+fn write_copy(f: Figures, coefficient: &[i16; 512], text: &mut [u8]) -> Result<usize, Refusal>
     requires { Accepted (problem_of f coefficient.now) f.steps }
     ensures { Writes (mps_text (problem_of f coefficient.now))
         (short_buffer 11 (mps_text (problem_of f coefficient.now)) (length text.old))
@@ -28,16 +28,13 @@ fn write_copy(f: Figures, coefficient: &[i16; 512], text: &mut [u8]) -> Output
     let mut space = [0u8; LONGEST];
     let end = put_text(&mut space, f, coefficient);
     if text.len() < end {
-        return Output::Refused(Refusal {
-            place: end,
-            cause: Cause::Text,
-        });
+        return Err(Cause::Text.at(end));
     }
-    Output::Wrote(put_bytes(text, 0, &space[0..end]))
+    Ok(put_bytes(text, 0, &space[0..end]))
 }
 
 // The text of figures that are read. A buffer that takes every text gets it at once.
-fn write_figures(f: Figures, coefficient: &[i16; 512], text: &mut [u8]) -> Output
+fn write_figures(f: Figures, coefficient: &[i16; 512], text: &mut [u8]) -> Result<usize, Refusal>
     requires { Accepted (problem_of f coefficient.now) f.steps }
     ensures { Writes (mps_text (problem_of f coefficient.now))
         (short_buffer 11 (mps_text (problem_of f coefficient.now)) (length text.old))
@@ -46,22 +43,18 @@ fn write_figures(f: Figures, coefficient: &[i16; 512], text: &mut [u8]) -> Outpu
     if text.len() < LONGEST {
         return write_copy(f, coefficient, text);
     }
-    Output::Wrote(put_text(text, f, coefficient))
+    Ok(put_text(text, f, coefficient))
 }
 
 // Writes the free MPS text of a sheet: any bytes, into any buffer. It answers the length of the text, which stands at
 // the start of the buffer before the rest as it was; or a refusal, with the buffer as it was.
-pub fn write_mps(sheet: &[u8], text: &mut [u8]) -> Output
+pub fn write_mps(sheet: &[u8], text: &mut [u8]) -> Result<usize, Refusal>
     ensures { Writes (mps_of sheet.now)
         (mps_refusal sheet.now (length text.old)) text.old text.new result }
 {
     let mut a: [i16; 512] = [0; 512];
-    let reading = read_sheet(sheet, &mut a);
-    let verdict = reading.verdict;
-    match verdict {
-        Verdict::Refused(refusal) => Output::Refused(refusal),
-        Verdict::Passed => write_figures(reading.figures, &a, text),
-    }
+    let figures = read_sheet(sheet, &mut a)?;
+    write_figures(figures, &a, text)
 }
 
 // Writes what batchmps prints of a sheet (T14.8), its text or the line of its refusal, to a buffer that takes either,
@@ -71,9 +64,8 @@ pub fn write_printed(sheet: &[u8], text: &mut [u8]) -> usize
     ensures listed { Listed (mps_printed sheet.now) text.old text.new result }
     ensures sheet_len_bound { length (mps_printed sheet.now) ≤ longest_mps }
 {
-    let output = write_mps(sheet, text);
-    match output {
-        Output::Wrote(length) => length,
-        Output::Refused(refusal) => put_refusal(text, refusal),
+    match write_mps(sheet, text) {
+        Ok(length) => length,
+        Err(refusal) => put_refusal(text, refusal),
     }
 }

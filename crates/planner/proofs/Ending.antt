@@ -1,12 +1,13 @@
 -- How planning ends: with a refusal and the buffer as lent, or with a plan and its record.
+use Rattle.std.specs.Prelude.{Result, Ok, Err}
 use mathlib.Core.Path.{◌≡◌, sym, subst, transport, ◌∙◌}
 use mathlib.Core.List.{List, ◌++◌}
 use mathlib.Core.Option.{Option, none, some}
 use Prim.Native.Nat.{ℕ, ◌≤◌}
 use lib.IntN.{ℤ}
 use lib.ListN.{length, drop}
+use Rattle.rules.specs.declared.PlanFigures.{PlanFigures}
 use Rattle.rules.specs.Notation.{tabulate, at}
-use Rattle.rules.specs.declared.Answer.{Answer}
 use Rattle.rules.specs.declared.Refusal.{Refusal}
 use Rattle.rules.specs.Problem.{Problem, cost_of}
 use Rattle.rules.specs.Sheet.{sheet_of}
@@ -33,7 +34,7 @@ use Rattle.planner.specs.Finish.{Ends, plan_with, WriteReady}
 
 -- a refusal leaves the buffer as lent
 pub ends-refused : {p : Plan} {met : Option Numbered} {lent : List ℕ} (r : Refusal) → met ≡ some (numbered r)
-    → Ends p met lent lent (Answer.Refused r)
+    → Ends p met lent lent (Err r)
 unfolding outcome outcome_of buffer_of
 ends-refused {p} {met} {lent} r m = record {
   answered = λ i. outcome_of p (sym m i);
@@ -43,12 +44,12 @@ ends-refused {p} {met} {lent} r m = record {
 -- a plan is followed in the buffer by the rest as lent
 pub ends-planned : {p : Plan} {lent left : List ℕ} {low gap : ℤ} → low ≡ p.low → gap ≡ p.gap
     → left ≡ record_of p ++ drop (record_length p.materials p.limits) lent
-    → Ends p none lent left (Answer.Plan low gap)
+    → Ends p none lent left (Ok (record { low = low; gap = gap }))
 unfolding outcome outcome_of buffer_of
 ends-planned l g b = record { answered = λ i. plan (l i) (g i); buffer = b }
 
 -- the same end, by another plan and another refusal that are equal
-pub ends_same : {p q : Plan} {met first : Option Numbered} {lent left : List ℕ} {r : Answer}
+pub ends_same : {p q : Plan} {met first : Option Numbered} {lent left : List ℕ} {r : Result PlanFigures Refusal}
     → p ≡ q → met ≡ first → Ends p met lent left r → Ends q first lent left r
 ends_same {lent = lent} {left = left} {r = r} e m h = transport (λ i. Ends (e i) (m i) lent left r) h
 
@@ -111,7 +112,7 @@ module _ (f : Figures) (a : List ℤ) {w : State} (finished : Finished f a f.ste
   }
 
 -- ---- the promise, from the end
-pub promised : {sheet lent left : List ℕ} {r : Answer}
+pub promised : {sheet lent left : List ℕ} {r : Result PlanFigures Refusal}
     → Ends (plan_of (sheet_of sheet)) (refusal (sheet_of sheet) (layout_refusal sheet) (length lent)) lent left r
     → Promise sheet lent left r
 unfolding answer answer_to buffer_after

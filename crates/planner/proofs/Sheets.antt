@@ -2,6 +2,7 @@
 use mathlib.Core.Path.{◌≡◌, sym, ap, transport, ◌∙◌}
 use mathlib.Core.List.{List}
 use mathlib.Core.Option.{none, some}
+use Rattle.std.specs.Prelude.{Ok}
 use Prim.Native.Nat.{ℕ}
 use lib.Dec.{ltb}
 use lib.IntN.{ℤ}
@@ -19,19 +20,15 @@ use Rattle.proof_magnitudes.proofs.Accepted.{accepted}
 use Rattle.sheet_figures.specs.declared.Figures.{Figures}
 use Rattle.sheet_figures.specs.Figures.{figures_of, problem_of, array_whole}
 use Rattle.sheet_figures.specs.Padded.{padded}
-use Rattle.sheet_read.specs.declared.Reading.{Reading}
 use Rattle.sheet_read.specs.Reading.{Reads}
 use Rattle.sheet_read.specs.Agreeing.{figures-are, steps-are, agree, accepted-in-arrays}
 use Rattle.run_step.specs.Reached.{FiguresReady}
 
 -- ---- a sheet that is read, with its figures in arrays
 module _ (s : List ℕ) (read : layout_refusal s ≡ none) (lent : List ℤ) (long : length lent ≡ 512)
-    {a : List ℤ} {r : Reading} (reads : Reads (sheet_of s) (layout_refusal s) lent a r) where
+    {a : List ℤ} {F : Figures} (reads : Reads (sheet_of s) (layout_refusal s) lent a (Ok F)) where
   abbrev P : Problem
   P = problem (sheet_of s)
-
-  abbrev F : Figures
-  F = r.figures
 
   pub figures-ready : FiguresReady F a
   unfolding figures_of

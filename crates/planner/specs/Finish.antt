@@ -1,7 +1,8 @@
 -- What the parts of planning ask and give.
-use Rattle.std.specs.Prelude.{◌≡◌, List, ℕ, ◌≤◌, ℤ, length}
+use Rattle.std.specs.Prelude.{◌≡◌, List, ℕ, ◌≤◌, ℤ, length, Result}
 use Rattle.std.proofs.Math.Option.{Option}
-use Rattle.rules.specs.declared.Answer.{Answer}
+use Rattle.rules.specs.declared.Refusal.{Refusal}
+use Rattle.rules.specs.declared.PlanFigures.{PlanFigures}
 use Rattle.rules.specs.Notation.{at}
 use Rattle.rules.specs.Run.{Plan, gap_of}
 use Rattle.rules.specs.Record.{record_length}
@@ -15,7 +16,7 @@ use Rattle.out_record.specs.RecordParts.{plan_in}
 use Rattle.out_record.specs.declared.Head.{Head}
 
 -- the answer of a plan p and of the refusal that was met, if any, with the buffer afterwards
-pub record Ends (p : Plan) (met : Option Numbered) (lent left : List ℕ) (result : Answer) : Type 0 where
+pub record Ends (p : Plan) (met : Option Numbered) (lent left : List ℕ) (result : Result PlanFigures Refusal) : Type 0 where
   pub answered : outcome result ≡ outcome_of p met
   pub buffer : left ≡ buffer_of p lent (outcome_of p met)
 

@@ -12,7 +12,7 @@ ghost use Rattle.planner.specs.Finish.{Ends, RunReady, plan_with, WriteReady};
 
 use out_layout::record_length;
 use out_record::{Head, write_record};
-use rules::{Answer, Cause, Refusal, Verdict};
+use rules::{Cause, PlanFigures, Refusal};
 use run_costs::gap;
 use run_step::State;
 use run_steps::run;
@@ -20,7 +20,7 @@ use sheet_figures::Figures;
 use sheet_read::read_sheet;
 
 // The record and the answer of a run that came to its end.
-fn write_plan(f: Figures, state: State, record: &mut [u8]) -> Answer
+fn write_plan(f: Figures, state: State, record: &mut [u8]) -> Result<PlanFigures, Refusal>
     requires { WriteReady f state «record».old }
     ensures { Ends (plan_with f state) none «record».old «record».new result }
 {
@@ -31,32 +31,33 @@ fn write_plan(f: Figures, state: State, record: &mut [u8]) -> Answer
         materials: f.materials,
         limits: f.limits,
         steps: f.steps,
-        low: low,
+        low,
         gap: gap,
     };
     let multipliers = state.multipliers;
     let totals = state.totals;
     write_record(record, head, &sums, &multipliers, &totals);
-    Answer::Plan { low: low, gap: gap }
+    Ok(PlanFigures { low, gap })
 }
 
 // The run of a sheet's figures, in a buffer that can take the record.
-fn plan_run(f: Figures, coefficient: &[i16; 512], record: &mut [u8]) -> Answer
+fn plan_run(f: Figures, coefficient: &[i16; 512], record: &mut [u8]) -> Result<PlanFigures, Refusal>
     requires { RunReady f coefficient.now «record».old }
     ensures { Ends (plan_after (problem_of f coefficient.now) f.steps)
         (run_refusal (problem_of f coefficient.now) f.steps)
         «record».old «record».new result }
 {
     let ran = run(f, coefficient);
-    let stop = ran.stop;
-    match stop {
-        Verdict::Refused(refusal) => Answer::Refused(refusal),
-        Verdict::Passed => write_plan(f, ran.state, record),
-    }
+    ran.stop?;
+    write_plan(f, ran.state, record)
 }
 
 // The plan of a sheet's figures, or refusals 8 to 10.
-fn plan_figures(f: Figures, coefficient: &[i16; 512], record: &mut [u8]) -> Answer
+fn plan_figures(
+    f: Figures,
+    coefficient: &[i16; 512],
+    record: &mut [u8],
+) -> Result<PlanFigures, Refusal>
     requires { FiguresReady f coefficient.now }
     ensures { Ends (plan_after (problem_of f coefficient.now) f.steps)
         (plan_refusal (problem_of f coefficient.now) f.steps (length «record».old))
@@ -64,10 +65,7 @@ fn plan_figures(f: Figures, coefficient: &[i16; 512], record: &mut [u8]) -> Answ
 {
     let wanted = record_length(f.materials, f.limits);
     if record.len() < wanted {
-        return Answer::Refused(Refusal {
-            place: wanted,
-            cause: Cause::Buffer,
-        });
+        return Err(Cause::Buffer.at(wanted));
     }
     plan_run(f, coefficient, record)
 }
@@ -76,14 +74,10 @@ fn plan_figures(f: Figures, coefficient: &[i16; 512], record: &mut [u8]) -> Answ
 // buffer, or a refusal, with the buffer as it was.
 // In the contract `sheet.now` is the sheet's bytes; `record.old` is what the buffer holds when the function is called,
 // and `record.new` when it returns.
-pub fn plan(sheet: &[u8], record: &mut [u8]) -> Answer
+pub fn plan(sheet: &[u8], record: &mut [u8]) -> Result<PlanFigures, Refusal>
     ensures { Promise sheet.now «record».old «record».new result }
 {
     let mut a: [i16; 512] = [0; 512];
-    let reading = read_sheet(sheet, &mut a);
-    let verdict = reading.verdict;
-    match verdict {
-        Verdict::Refused(refusal) => Answer::Refused(refusal),
-        Verdict::Passed => plan_figures(reading.figures, &a, record),
-    }
+    let figures = read_sheet(sheet, &mut a)?;
+    plan_figures(figures, &a, record)
 }

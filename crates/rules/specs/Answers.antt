@@ -1,7 +1,8 @@
 -- TASK.md, T7: the answer to a sheet, and the lent buffer afterwards.
-use Rattle.std.specs.Prelude.{ℕ, suc, List, ◌++◌, length, drop, ℤ, ltb}
+use Rattle.std.specs.Prelude.{ℕ, suc, List, ◌++◌, length, drop, ℤ, ltb, Result, Ok, Err}
 use Rattle.std.proofs.Math.Option.{Option, none, some}
-use Rattle.rules.specs.declared.Answer.{Answer}
+use Rattle.rules.specs.declared.PlanFigures.{PlanFigures}
+use Rattle.rules.specs.declared.Refusal.{Refusal}
 use Rattle.rules.specs.Problem.{Problem}
 use Rattle.rules.specs.Sheet.{Sheet, sheet_of, problem}
 use Rattle.rules.specs.Step.{infeasible, diverged}
@@ -15,9 +16,9 @@ pub data Outcome : Type 0 where
   refused : Numbered → Outcome
 
 -- what each case of the code's answer stands for
-unfoldable pub outcome : Answer → Outcome
-outcome (Answer.Plan low gap) = plan low gap
-outcome (Answer.Refused r) = refused (numbered r)
+unfoldable pub outcome : Result PlanFigures Refusal → Outcome
+outcome (Ok figures) = plan figures.low figures.gap
+outcome (Err r) = refused (numbered r)
 
 -- T7.4, refusal 9 of the look at the multipliers after t steps: that of step t, and that which closes a run of t
 -- steps. The place is t.

@@ -1,8 +1,7 @@
 -- TASK.md, T11.5: sheets that settle the closing look, L1 to L7, in one table, with one proof that the definitions give
 -- it.
-use Rattle.std.specs.Prelude.{ℕ, ◌≡◌, refl, List, [], ◌∷◌, ◌++◌, map, ℤ, pos}
+use Rattle.std.specs.Prelude.{ℕ, ◌≡◌, refl, List, [], ◌∷◌, ◌++◌, map, ℤ, pos, Ok, Err}
 use Rattle.rules.specs.Notation.{neg}
-use Rattle.rules.specs.declared.Answer.TheVariants.{Plan, Refused}
 use Rattle.rules.specs.declared.Cause.TheVariants.{Infeasible}
 use Rattle.rules.specs.Sheet.{sheet_of, problem}
 use Rattle.rules.specs.Run.{look_after, closing_value}
@@ -17,7 +16,7 @@ abbrev pub L1 : Row
 L1 = record {
   sheet = encode 2 1 1 8 3 entries-C1;
   room = 43;
-  answer = Plan (pos 104) (pos 88);
+  answer = Ok (record { low = pos 104; gap = pos 88 });
   bytes = hex "0200 0100 0300 6800000000000000 5800000000000000 0a000000 14000000 00000000 fcffffffffffffff";
   listing = text "steps 3\nmat 0 10\nmat 1 20\nlim 0 0 -4\nlow 104\ngap 88\n";
 }
@@ -35,7 +34,7 @@ abbrev pub L2 : Row
 L2 = record {
   sheet = encode 1 1 1 1 2 entries-L2;
   room = 38;
-  answer = Plan (pos 8) (neg 16);
+  answer = Ok (record { low = pos 8; gap = neg 16 });
   bytes = hex "0100 0100 0200 0800000000000000 f0ffffffffffffff 00000000 04000000 0400000000000000";
   listing = text "steps 2\nmat 0 0\nlim 0 4 4\nlow 8\ngap -16\n";
 }
@@ -46,7 +45,7 @@ abbrev pub L3 : Row
 L3 = record {
   sheet = encode 1 1 1 1 3 entries-L2;
   room = 38;
-  answer = Refused (record { place = 3; cause = Infeasible });
+  answer = Err (record { place = 3; cause = Infeasible });
   bytes = [];
   listing = text "refused 9 3\n";
 }
@@ -57,7 +56,7 @@ abbrev pub L4 : Row
 L4 = record {
   sheet = encode 2 1 2 8 1 entries-C1;
   room = 42;
-  answer = Plan (pos 0) (pos 0);
+  answer = Ok (record { low = pos 0; gap = pos 0 });
   bytes = hex "0200 0100 0100 0000000000000000 0000000000000000 00000000 00000000 18000000 0c00000000000000";
   listing = text "steps 1\nmat 0 0\nmat 1 0\nlim 0 24 12\nlow 0\ngap 0\n";
 }
@@ -71,7 +70,7 @@ abbrev pub L5 : Row
 L5 = record {
   sheet = encode 1 1 4 6 2 (0 ∶ pos 3 ∷ 128 ∶ pos 2 ∷ 192 ∶ neg 3 ∷ 193 ∶ neg 3 ∷ []);
   room = 38;
-  answer = Plan (pos 0) (pos 36);
+  answer = Ok (record { low = pos 0; gap = pos 36 });
   bytes = hex "0100 0100 0200 0000000000000000 2400000000000000 02000000 00000000 0000000000000000";
   listing = text "steps 2\nmat 0 2\nlim 0 0 0\nlow 0\ngap 36\n";
 }
@@ -84,7 +83,7 @@ abbrev pub L6 : Row
 L6 = record {
   sheet = encode 1 1 2 6 1 (0 ∶ pos 1 ∷ 128 ∶ pos 2 ∷ 192 ∶ neg 2 ∷ 193 ∶ neg 3 ∷ 194 ∶ pos 4 ∷ []);
   room = 38;
-  answer = Plan (pos 8) (pos 4);
+  answer = Ok (record { low = pos 8; gap = pos 4 });
   bytes = hex "0100 0100 0100 0800000000000000 0400000000000000 02000000 02000000 ffffffffffffffff";
   listing = text "steps 1\nmat 0 2\nlim 0 2 -1\nlow 8\ngap 4\n";
 }
@@ -98,7 +97,7 @@ abbrev pub L7 : Row
 L7 = record {
   sheet = encode 1 1 1 1024 1 (0 ∶ pos 10000 ∷ 128 ∶ pos 1000 ∷ 193 ∶ neg 1 ∷ 194 ∶ pos 1073741823 ∷ []);
   room = 38;
-  answer = Plan (pos 1073741824) (neg 1073741824);
+  answer = Ok (record { low = pos 1073741824; gap = neg 1073741824 });
   bytes = hex "0100 0100 0100 0000004000000000 000000c0ffffffff 00000000 00000040 0100000000000000";
   listing = text "steps 1\nmat 0 0\nlim 0 1073741824 1\nlow 1073741824\ngap -1073741824\n";
 }

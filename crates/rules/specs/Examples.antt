@@ -1,12 +1,10 @@
 -- The examples of the table of refusals (TASK.md, T7.4); and sheets that settle what they and C1 to C10 leave open.
 -- Tables of the same form, each with its proof.
-use Rattle.std.specs.Prelude.{ℕ, ◌+◌, ◌*◌, ◌≡◌, refl, List, [], ◌∷◌, ◌++◌, map, length, get_or, replicate, pos}
+use Rattle.std.specs.Prelude.{Ok, Err, ℕ, ◌+◌, ◌*◌, ◌≡◌, refl, List, [], ◌∷◌, ◌++◌, map, length, get_or, replicate, pos}
 use Prim.Native.String.{String}
 use Rattle.std.proofs.Math.Option.{none}
 use Rattle.std.proofs.Common.{arith}
 use Rattle.rules.specs.Notation.{neg}
-use Rattle.rules.specs.declared.Answer.TheVariants.{Plan, Refused}
-use Rattle.rules.specs.declared.Output.{Output}
 use Rattle.rules.specs.declared.Kind.{Kind}
 use Rattle.rules.specs.declared.Range.{Range}
 use Rattle.rules.specs.declared.Sizes.{Sizes}
@@ -30,7 +28,7 @@ refusal-row sheet room cause place listing =
     record {
       sheet = sheet;
       room = room;
-      answer = Refused (record { place = place; cause = cause });
+      answer = Err (record { place = place; cause = cause });
       bytes = [];
       listing = text listing;
     }
@@ -147,7 +145,7 @@ ends =
           encode 1 1 1024 1024 1
           (0 ∶ pos 10000 ∷ 64 ∶ pos 1000 ∷ 128 ∶ pos 1000 ∷ 192 ∶ neg 1000 ∷ 193 ∶ pos 32000000 ∷ []);
       room = 38;
-      answer = Plan (pos 10240000000) (pos 0);
+      answer = Ok (record { low = pos 10240000000; gap = pos 0 });
       bytes = hex "0100 0100 0100 00005a6202000000 0000000000000000 e8030000 00000000 c07508feffffffff";
       listing = text "steps 1\nmat 0 1000\nlim 0 0 -33000000\nlow 10240000000\ngap 0\n";
     } ∷
@@ -257,7 +255,7 @@ steps =
           (0 ∶ pos 1 ∷ 1 ∶ pos 2 ∷ 128 ∶ pos 4 ∷ 129 ∶ pos 5 ∷ 192 ∶ neg 1 ∷ 194 ∶ neg 3
           ∷ 256 ∶ pos 1 ∷ 257 ∶ neg 1 ∷ 258 ∶ neg 1 ∷ []);
       room = 54;
-      answer = Plan (pos 22) (neg 24);
+      answer = Ok (record { low = pos 22; gap = neg 24 });
       bytes =
           hex "0200 0200 0300 1600000000000000 e8ffffffffffffff 04000000 05000000"
           ++ hex "0a000000 04000000 0500000000000000 0200000000000000";
@@ -273,7 +271,7 @@ steps =
           encode 1 2 1 10 2
           (0 ∶ pos 1 ∷ 128 ∶ pos 10 ∷ 192 ∶ pos 1 ∷ 193 ∶ pos 5000 ∷ 256 ∶ neg 2 ∷ 257 ∶ neg 15 ∷ []);
       room = 50;
-      answer = Plan (pos 50) (pos 0);
+      answer = Ok (record { low = pos 50; gap = pos 0 });
       bytes =
           hex "0100 0200 0200 3200000000000000 0000000000000000 0a000000 00000000 0a000000"
           ++ hex "fad8ffffffffffff 0a00000000000000";
@@ -288,7 +286,7 @@ steps =
     record {
       sheet = encode 1 1 1 1 2 (0 ∶ neg 2 ∷ 64 ∶ pos 1 ∷ 128 ∶ pos 3 ∷ 192 ∶ pos 1 ∷ 193 ∶ pos 2 ∷ []);
       room = 38;
-      answer = Plan (neg 4) (neg 4);
+      answer = Ok (record { low = neg 4; gap = neg 4 });
       bytes = hex "0100 0100 0200 fcffffffffffffff fcffffffffffffff 06000000 02000000 0200000000000000";
       listing = text "steps 2\nmat 0 6\nlim 0 2 2\nlow -4\ngap -4\n";
     } ∷
@@ -303,7 +301,7 @@ steps =
           (0 ∶ pos 3 ∷ 128 ∶ pos 5 ∷ 192 ∶ neg 1 ∷ 193 ∶ neg 2 ∷ 194 ∶ pos 4
           ∷ 256 ∶ neg 2 ∷ 257 ∶ neg 7 ∷ 258 ∶ pos 1 ∷ []);
       room = 50;
-      answer = Plan (pos 15) (neg 15);
+      answer = Ok (record { low = pos 15; gap = neg 15 });
       bytes =
           hex "0100 0200 0100 0f00000000000000 f1ffffffffffffff 00000000 06000000 08000000"
           ++ hex "0200000000000000 0700000000000000";
@@ -330,7 +328,7 @@ written-3 = refl and refl
 -- a buffer of two bytes is too short, and is as lent
 pub not-written-3 :
     (writing_of (1 ∷ 2 ∷ 3 ∷ []) (short_buffer 8 (1 ∷ 2 ∷ 3 ∷ []) 2)
-    ≡ writing (Output.Refused (record { place = 3; cause = Buffer }))) ×
-    (lent_after (1 ∷ 2 ∷ 3 ∷ []) (lent 2) (writing (Output.Refused (record { place = 3; cause = Buffer }))) ≡ lent 2)
+    ≡ writing (Err (record { place = 3; cause = Buffer }))) ×
+    (lent_after (1 ∷ 2 ∷ 3 ∷ []) (lent 2) (writing (Err (record { place = 3; cause = Buffer }))) ≡ lent 2)
 unfolding writing numbered number_of writing_of short_buffer refuse lent_after
 not-written-3 = refl and refl

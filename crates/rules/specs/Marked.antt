@@ -1,7 +1,6 @@
 -- TASK.md, T11: C1 to C10 in one table, with one proof that the definitions give it.
-use Rattle.std.specs.Prelude.{◌≡◌, refl, ℕ, List, [], ◌∷◌, ◌++◌, map, pos}
+use Rattle.std.specs.Prelude.{◌≡◌, refl, ℕ, List, [], ◌∷◌, ◌++◌, map, pos, Ok, Err}
 use Rattle.rules.specs.Notation.{neg, at}
-use Rattle.rules.specs.declared.Answer.TheVariants.{Plan, Refused}
 use Rattle.rules.specs.declared.Cause.TheVariants.{Bounds, Infeasible, Diverged}
 use Rattle.rules.specs.Problem.{Problem}
 use Rattle.rules.specs.Sheet.{sized, sheet_of, problem}
@@ -19,7 +18,7 @@ abbrev pub C1 : Row
 C1 = record {
   sheet = encode 2 1 1 8 4 entries-C1;
   room = 44;
-  answer = Plan (pos 104) (neg 16);
+  answer = Ok (record { low = pos 104; gap = neg 16 });
   bytes = hex "0200 0100 0400 6800000000000000 f0ffffffffffffff 0a000000 14000000 0c000000 0800000000000000";
   listing = text "steps 4\nmat 0 10\nmat 1 20\nlim 0 12 8\nlow 104\ngap -16\n";
 }
@@ -29,7 +28,7 @@ abbrev pub C2 : Row
 C2 = record {
   sheet = encode 2 1 1 8 1 entries-C1;
   room = 42;
-  answer = Plan (pos 104) (neg 104);
+  answer = Ok (record { low = pos 104; gap = neg 104 });
   bytes = hex "0200 0100 0100 6800000000000000 98ffffffffffffff 00000000 00000000 0c000000 0c00000000000000";
   listing = text "steps 1\nmat 0 0\nmat 1 0\nlim 0 12 12\nlow 104\ngap -104\n";
 }
@@ -42,7 +41,7 @@ abbrev pub C3 : Row
 C3 = record {
   sheet = encode 1 1 1 1 2 entries-C3;
   room = 38;
-  answer = Refused (record { place = 1; cause = Infeasible });
+  answer = Err (record { place = 1; cause = Infeasible });
   bytes = [];
   listing = text "refused 9 1\n";
 }
@@ -52,7 +51,7 @@ abbrev pub C4 : Row
 C4 = record {
   sheet = encode 1 1 1 1 1 entries-C3;
   room = 40;
-  answer = Refused (record { place = 1; cause = Infeasible });
+  answer = Err (record { place = 1; cause = Infeasible });
   bytes = [];
   listing = text "refused 9 1\n";
 }
@@ -62,7 +61,7 @@ abbrev pub C5 : Row
 C5 = record {
   sheet = encode 1 1 1024 1 1 (193 ∶ neg 1048577 ∷ []);
   room = 38;
-  answer = Refused (record { place = 0; cause = Diverged });
+  answer = Err (record { place = 0; cause = Diverged });
   bytes = [];
   listing = text "refused 10 0\n";
 }
@@ -72,7 +71,7 @@ abbrev pub C6 : Row
 C6 = record {
   sheet = encode 1 1 1024 1 1 (193 ∶ neg 1048576 ∷ []);
   room = 38;
-  answer = Refused (record { place = 1; cause = Infeasible });
+  answer = Err (record { place = 1; cause = Infeasible });
   bytes = [];
   listing = text "refused 9 1\n";
 }
@@ -82,7 +81,7 @@ abbrev pub C7 : Row
 C7 = record {
   sheet = encode 1 0 1 1 1 [];
   room = 26;
-  answer = Plan (pos 0) (pos 0);
+  answer = Ok (record { low = pos 0; gap = pos 0 });
   bytes = hex "0100 0000 0100 0000000000000000 0000000000000000 00000000";
   listing = text "steps 1\nmat 0 0\nlow 0\ngap 0\n";
 }
@@ -92,7 +91,7 @@ abbrev pub C8 : Row
 C8 = record {
   sheet = encode 1 0 1 1 2 (0 ∶ neg 2 ∷ 128 ∶ pos 3 ∷ []);
   room = 27;
-  answer = Plan (neg 6) (pos 0);
+  answer = Ok (record { low = neg 6; gap = pos 0 });
   bytes = hex "0100 0000 0200 faffffffffffffff 0000000000000000 06000000";
   listing = text "steps 2\nmat 0 6\nlow -6\ngap 0\n";
 }
@@ -102,7 +101,7 @@ abbrev pub C9 : Row
 C9 = record {
   sheet = encode 1 0 1 1 1 (0 ∶ pos 5 ∷ 64 ∶ pos 4 ∷ 128 ∶ pos 4 ∷ []);
   room = 26;
-  answer = Plan (pos 20) (pos 0);
+  answer = Ok (record { low = pos 20; gap = pos 0 });
   bytes = hex "0100 0000 0100 1400000000000000 0000000000000000 04000000";
   listing = text "steps 1\nmat 0 4\nlow 20\ngap 0\n";
 }
@@ -112,7 +111,7 @@ abbrev pub C10 : Row
 C10 = record {
   sheet = encode 1 0 1 1 1 (64 ∶ pos 4 ∷ 128 ∶ pos 3 ∷ []);
   room = 26;
-  answer = Refused (record { place = 0; cause = Bounds });
+  answer = Err (record { place = 0; cause = Bounds });
   bytes = [];
   listing = text "refused 7 0\n";
 }

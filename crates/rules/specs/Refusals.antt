@@ -1,12 +1,12 @@
 -- TASK.md, T7: the numbers of the refusals, and refusals 1 to 7.
-use Rattle.std.specs.Prelude.{ℕ, zero, suc, ◌+◌, Bool, true, false, not, ◌&&◌, ◌||◌, List, length, ℤ, ltb, leb, eqb}
+use Rattle.std.specs.Prelude.{Result, Ok, Err}
+use Rattle.std.specs.Prelude.{ℕ, zero, suc, ◌+◌, Bool, true, false, not, ◌&&◌, ◌||◌, List, length, ℤ, ltb, leb, eqb, ⊤}
 use Rattle.std.proofs.Math.Option.{Option, none, some}
 use Rattle.std.specs.Int.Signed.{lt_z}
 use Rattle.rules.specs.declared.Cause.{Cause}
 use Rattle.rules.specs.declared.Cause.TheVariants.{Short, Dimensions, Length, Parameters, Key, Value, Bounds}
 use Rattle.rules.specs.declared.Cause.TheVariants.{Buffer, Infeasible, Diverged, Text}
 use Rattle.rules.specs.declared.Refusal.{Refusal}
-use Rattle.rules.specs.declared.Verdict.{Verdict}
 use Rattle.rules.specs.declared.Shape.{Shape}
 use Rattle.rules.specs.Notation.{is_zero}
 use Rattle.rules.specs.Sheet.{Sheet, header_length, sheet_length, sheet_of, Table, key_of, row_of, column_of, table_of}
@@ -35,10 +35,10 @@ number_of Text = 11
 unfoldable pub numbered : Refusal → Numbered
 numbered r = record { number = number_of r.cause; place = r.place }
 
--- what each verdict stands for: no refusal, or a refusal's number and place
-unfoldable pub refusal_of : Verdict → Option Numbered
-refusal_of Verdict.Passed = none
-refusal_of (Verdict.Refused r) = some (numbered r)
+-- what the result of a test stands for: no refusal, or a refusal's number and place
+unfoldable pub refusal_of : Result ⊤ Refusal → Option Numbered
+refusal_of (Ok passed) = none
+refusal_of (Err r) = some (numbered r)
 
 -- T7.4, a row of the table: the number, the place, and when it is given
 unfoldable pub refuse : ℕ → ℕ → Bool → Option Numbered

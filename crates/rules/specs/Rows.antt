@@ -1,9 +1,10 @@
 -- How a table of sheets is written down and held against the definitions. Only worked sheets and points use it.
+use Rattle.std.specs.Prelude.{ltb, eqb, Result}
 use Rattle.std.specs.Prelude.{ℕ, ◌+◌, ◌-◌, ◌*◌, ◌≡◌, cond, List, [], ◌∷◌, ◌++◌, map, length, replicate, drop, ℤ, pos}
-use Rattle.std.specs.Prelude.{ltb, eqb}
 use Prim.Native.String.{String}
 use Rattle.rules.specs.Notation.{is_zero, maxℤ, sum_to, any_below, tabulate}
-use Rattle.rules.specs.declared.Answer.{Answer}
+use Rattle.rules.specs.declared.PlanFigures.{PlanFigures}
+use Rattle.rules.specs.declared.Refusal.{Refusal}
 use Rattle.rules.specs.Problem.{cost_of, load_of}
 use Rattle.rules.specs.Bytes.{unsigned_at, signed_of, signed_at, unsigned_bytes, signed_bytes, laid}
 use Rattle.rules.specs.Sheet.{header_length, sized, Table, value_under, problem_from}
@@ -68,7 +69,7 @@ hex s = pairs (unspaced (text s))
 pub record Row : Type 0 where
   pub sheet : List ℕ
   pub room : ℕ
-  pub answer : Answer
+  pub answer : Result PlanFigures Refusal
   pub bytes : List ℕ
   pub listing : List ℕ
 

@@ -1,8 +1,7 @@
 -- TASK.md, T11.3: sheets with starts, S1 to S9, in one table, with one proof that the definitions give it. S6 has the
 -- largest sizes and takes long to compute: it stands in the crate `rules_largest`, where no edit pays for it.
-use Rattle.std.specs.Prelude.{◌≡◌, refl, true, false, List, [], ◌∷◌, ◌++◌, map, pos}
+use Rattle.std.specs.Prelude.{◌≡◌, refl, true, false, List, [], ◌∷◌, ◌++◌, map, pos, Ok, Err}
 use Rattle.rules.specs.Notation.{neg, at}
-use Rattle.rules.specs.declared.Answer.TheVariants.{Plan, Refused}
 use Rattle.rules.specs.declared.Cause.TheVariants.{Dimensions, Value, Infeasible}
 use Rattle.rules.specs.declared.Kind.TheVariants.{Start}
 use Rattle.rules.specs.Sheet.{sheet_of, problem}
@@ -17,7 +16,7 @@ abbrev pub S1 : Row
 S1 = record {
   sheet = encode 2 1 1 8 4 (entries-C1 ++ (195 ∶ pos 12 ∷ []));
   room = 42;
-  answer = Plan (pos 104) (pos 64);
+  answer = Ok (record { low = pos 104; gap = pos 64 });
   bytes = hex "0200 0100 0400 6800000000000000 4000000000000000 0a000000 1e000000 0e000000 feffffffffffffff";
   listing = text "steps 4\nmat 0 10\nmat 1 30\nlim 0 14 -2\nlow 104\ngap 64\n";
 }
@@ -28,7 +27,7 @@ abbrev pub S2 : Row
 S2 = record {
   sheet = encode 1 1 1 1 1 (entries-C3 ++ (194 ∶ pos 5 ∷ []));
   room = 38;
-  answer = Refused (record { place = 0; cause = Infeasible });
+  answer = Err (record { place = 0; cause = Infeasible });
   bytes = [];
   listing = text "refused 9 0\n";
 }
@@ -42,7 +41,7 @@ abbrev pub S3 : Row
 S3 = record {
   sheet = encode 1 1 1 2 2 (0 ∶ pos 1 ∷ 64 ∶ pos 1 ∷ 128 ∶ pos 3 ∷ 192 ∶ pos 1 ∷ 193 ∶ pos 3 ∷ 194 ∶ pos 10 ∷ []);
   room = 38;
-  answer = Plan (pos 2) (pos 0);
+  answer = Ok (record { low = pos 2; gap = pos 0 });
   bytes = hex "0100 0100 0200 0200000000000000 0000000000000000 02000000 06000000 fcffffffffffffff";
   listing = text "steps 2\nmat 0 2\nlim 0 6 -4\nlow 2\ngap 0\n";
 }
@@ -52,7 +51,7 @@ abbrev pub S4 : Row
 S4 = record {
   sheet = encode 1 1 1 1 1 (194 ∶ pos 1073741824 ∷ []);
   room = 39;
-  answer = Plan (pos 0) (pos 0);
+  answer = Ok (record { low = pos 0; gap = pos 0 });
   bytes = hex "0100 0100 0100 0000000000000000 0000000000000000 00000000 00000040 0000000000000000";
   listing = text "steps 1\nmat 0 0\nlim 0 1073741824 0\nlow 0\ngap 0\n";
 }
@@ -62,7 +61,7 @@ abbrev pub S5 : Row
 S5 = record {
   sheet = encode 1 1 1 1 1 (194 ∶ pos 1073741825 ∷ []);
   room = 38;
-  answer = Refused (record { place = 0; cause = Value });
+  answer = Err (record { place = 0; cause = Value });
   bytes = [];
   listing = text "refused 6 0\n";
 }
@@ -75,7 +74,7 @@ abbrev pub S7 : Row
 S7 = record {
   sheet = encode 1 1 4 6 1 (0 ∶ pos 1 ∷ 128 ∶ pos 2 ∷ 192 ∶ neg 2 ∷ 193 ∶ neg 3 ∷ 194 ∶ pos 12 ∷ []);
   room = 38;
-  answer = Plan (pos 4) (pos 8);
+  answer = Ok (record { low = pos 4; gap = pos 8 });
   bytes = hex "0100 0100 0100 0400000000000000 0800000000000000 02000000 08000000 ffffffffffffffff";
   listing = text "steps 1\nmat 0 2\nlim 0 8 -1\nlow 4\ngap 8\n";
 }
@@ -91,7 +90,7 @@ S8 = record {
       (0 ∶ pos 10000 ∷ 64 ∶ pos 1000 ∷ 128 ∶ pos 1000 ∷ 192 ∶ neg 1000 ∷ 193 ∶ pos 32000000 ∷ 194 ∶ pos 1073741824
       ∷ []);
   room = 38;
-  answer = Plan (pos 10240000000) (pos 0);
+  answer = Ok (record { low = pos 10240000000; gap = pos 0 });
   bytes = hex "0100 0100 0100 00005a6202000000 0000000000000000 e8030000 00000000 c07508feffffffff";
   listing = text "steps 1\nmat 0 1000\nlim 0 0 -33000000\nlow 10240000000\ngap 0\n";
 }
@@ -103,7 +102,7 @@ S9 = record {
       encode 1 1 1 1 1
       (0 ∶ pos 1 ∷ 64 ∶ pos 1 ∷ 128 ∶ pos 1 ∷ 192 ∶ pos 1 ∷ 193 ∶ pos 1 ∷ 194 ∶ pos 1 ∷ 195 ∶ pos 1 ∷ []);
   room = 38;
-  answer = Refused (record { place = 0; cause = Dimensions });
+  answer = Err (record { place = 0; cause = Dimensions });
   bytes = [];
   listing = text "refused 2 0\n";
 }

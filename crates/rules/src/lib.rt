@@ -1,49 +1,58 @@
 // The types that the definitions of specs/ and the code above share. What they mean is said in specs/.
 #![tactic(auto)]
 
-// Why a refusal is given, in the order of the table of refusals (TASK.md, T7.4).
-// `number_of` of specs/Refusals.antt gives each its number there.
+ghost use Rattle.std.specs.Prelude.{◌≡◌};
+ghost use Rattle.rules.specs.Refusals.{number_of};
+
+// Why a refusal is given, each cause with its number in the table of refusals (TASK.md, T7.4).
 #[derive(Clone, Copy)]
 pub enum Cause {
-    Short,
-    Dimensions,
-    Length,
-    Parameters,
-    Key,
-    Value,
-    Bounds,
-    Buffer,
-    Infeasible,
-    Diverged,
-    Text,
+    Short = 1,
+    Dimensions = 2,
+    Length = 3,
+    Parameters = 4,
+    Key = 5,
+    Value = 6,
+    Bounds = 7,
+    Buffer = 8,
+    Infeasible = 9,
+    Diverged = 10,
+    Text = 11,
+}
+
+// The number of a refusal.
+impl From<Cause> for usize {
+    ghost from_gives = { λ cause number. number ≡ number_of cause };
+
+    #[tactic(auto, unfolding(crate::specs::Refusals::number_of))]
+    fn from(cause: Cause) -> usize {
+        cause as usize
+    }
 }
 
 // A refusal: its place, and the cause that it names.
+// It is the error of all that can be refused: a test, whose result is `Result<(), Refusal>`; a function that writes to
+// a lent buffer, whose result is how many bytes it wrote; and a plan.
 #[derive(Clone, Copy)]
 pub struct Refusal {
     pub place: usize,
     pub cause: Cause,
 }
 
-// What a test gives, of a sheet that is read or of a step: it is passed, or refused.
-#[derive(Clone, Copy)]
-pub enum Verdict {
-    Passed,
-    Refused(Refusal),
+impl Cause {
+    // The refusal for this cause, at a place.
+    pub fn at(self, place: usize) -> Refusal
+        ensures { result ≡ record { place = place; cause = self } }
+    {
+        Refusal { place, cause: self }
+    }
 }
 
-// The answer to a sheet: the low and the gap of a plan, or a refusal.
+// The figures of a plan that an answer gives.
 #[derive(Clone, Copy)]
-pub enum Answer {
-    Plan { low: i64, gap: i64 },
-    Refused(Refusal),
-}
-
-// The answer of a function that writes a sheet or a text to a lent buffer: how many bytes it wrote, or a refusal.
-#[derive(Clone, Copy)]
-pub enum Output {
-    Wrote(usize),
-    Refused(Refusal),
+pub struct PlanFigures {
+    pub low: i64,
+    pub gap: i64,
 }
 
 // The shape of a sheet: n and m, how many materials and limits there are.

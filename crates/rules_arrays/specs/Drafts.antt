@@ -1,9 +1,9 @@
 -- W1 to W3, written from plain arrays, and arrays that are refused (T11.4); and the terms of T13.7 to T13.10.
-use Rattle.std.specs.Prelude.{ℕ, ◌≡◌, refl, List, [], ◌∷◌, ◌++◌, length, replicate, drop, ℤ, pos}
+use Rattle.std.specs.Prelude.{Result, Ok, Err, ℕ, ◌≡◌, refl, List, [], ◌∷◌, ◌++◌, length, replicate, drop, ℤ, pos}
 use Rattle.std.proofs.Math.Option.{some}
 use Rattle.rules.specs.declared.Cause.{Cause}
 use Rattle.rules.specs.declared.Cause.TheVariants.{Dimensions, Parameters, Value, Bounds, Buffer}
-use Rattle.rules.specs.declared.Output.{Output}
+use Rattle.rules.specs.declared.Refusal.{Refusal}
 use Rattle.rules.specs.declared.Sizes.{Sizes}
 use Rattle.rules.specs.Notation.{neg, is_zero, any_below}
 use Rattle.rules.specs.Bytes.{unsigned_bytes, signed_bytes, laid}
@@ -27,13 +27,13 @@ pub record Draft : Type 0 where
   pub sizes : Sizes
   pub arrays : Arrays
   pub room : ℕ
-  pub output : Output
+  pub output : Result ℕ Refusal
   pub bytes : List ℕ
 
 -- sizes, arrays, a buffer and what is written
 abbrev pub writes : Sizes → Arrays → ℕ → List ℕ → Draft
 writes z A room bytes =
-    record { sizes = z; arrays = A; room = room; output = Output.Wrote (length bytes); bytes = bytes }
+    record { sizes = z; arrays = A; room = room; output = Ok (length bytes); bytes = bytes }
 
 -- sizes, arrays, a buffer and the refusal
 abbrev pub refuses : Sizes → Arrays → ℕ → Cause → ℕ → Draft
@@ -41,7 +41,7 @@ refuses z A room cause place = record {
   sizes = z;
   arrays = A;
   room = room;
-  output = Output.Refused (record { place = place; cause = cause });
+  output = Err (record { place = place; cause = cause });
   bytes = [];
 }
 

@@ -1,7 +1,6 @@
 -- TASK.md, T11.3: S6, of the largest sizes, in the form of the tables of `rules`.
-use Rattle.std.specs.Prelude.{◌≡◌, refl, List, [], ◌∷◌, ◌++◌, replicate, pos}
+use Rattle.std.specs.Prelude.{◌≡◌, refl, List, [], ◌∷◌, ◌++◌, replicate, pos, Ok}
 use Rattle.rules.specs.Notation.{neg}
-use Rattle.rules.specs.declared.Answer.TheVariants.{Plan}
 use Rattle.rules.specs.Encoder.{written}
 use Rattle.rules.specs.Listing.{text}
 use Rattle.rules.specs.Sheet.{sized}
@@ -18,7 +17,7 @@ abbrev pub S6 : Row
 S6 = record {
   sheet = encode 32 16 1 1 1 entries-S6;
   room = 342;
-  answer = Plan (pos 5) (pos 0);
+  answer = Ok (record { low = pos 5; gap = pos 0 });
   bytes =
       hex "2000 1000 0100 0500000000000000 0000000000000000"
       ++ replicate 124 0

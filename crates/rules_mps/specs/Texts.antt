@@ -1,8 +1,8 @@
 -- TASK.md, T11.6: worked texts and refusals in one table, with one proof that the definitions give it.
-use Rattle.std.specs.Prelude.{ℕ, ◌≡◌, refl, List, [], ◌∷◌, ◌++◌, length, drop, pos}
+use Rattle.std.specs.Prelude.{ℕ, ◌≡◌, refl, List, [], ◌∷◌, ◌++◌, length, drop, pos, Result, Ok, Err}
 use Rattle.rules.specs.declared.Cause.{Cause}
 use Rattle.rules.specs.declared.Cause.TheVariants.{Key, Bounds, Text}
-use Rattle.rules.specs.declared.Output.{Output}
+use Rattle.rules.specs.declared.Refusal.{Refusal}
 use Rattle.rules.specs.Notation.{neg}
 use Rattle.rules.specs.Problem.{Problem}
 use Rattle.rules.specs.Output.{writing, writing_of, lent_after, short_buffer}
@@ -19,20 +19,20 @@ use Rattle.rules_mps.specs.Mps.{printed_of, mps_printed}
 pub record Export : Type 0 where
   pub sheet : List ℕ
   pub room : ℕ
-  pub output : Output
+  pub output : Result ℕ Refusal
   pub bytes : List ℕ
   pub printed : List ℕ
 
 -- a sheet, a buffer and the text that is written and printed
 abbrev pub writes : List ℕ → ℕ → List ℕ → Export
-writes s room t = record { sheet = s; room = room; output = Output.Wrote (length t); bytes = t; printed = t }
+writes s room t = record { sheet = s; room = room; output = Ok (length t); bytes = t; printed = t }
 
 -- a sheet, a buffer, the refusal and what is printed
 abbrev pub refuses : List ℕ → ℕ → Cause → ℕ → List ℕ → Export
 refuses s room cause place t = record {
   sheet = s;
   room = room;
-  output = Output.Refused (record { place = place; cause = cause });
+  output = Err (record { place = place; cause = cause });
   bytes = [];
   printed = t;
 }

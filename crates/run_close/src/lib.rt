@@ -6,7 +6,7 @@ ghost use Rattle.sheet_figures.specs.Figures.{problem_of};
 ghost use Rattle.run_step.specs.States.{closed_in, HandedBack};
 ghost use Rattle.run_step.specs.Reached.{LookReady};
 
-use rules::{Cause, Refusal, Verdict};
+use rules::Cause;
 use run_arithmetic::larger;
 use run_look::look_at;
 use run_step::{State, Stepped};
@@ -38,10 +38,7 @@ pub fn close(w: State, f: Figures, coefficient: &[i16; 512], greatest: i64, coun
     );
     if greatest < value {
         return Stepped {
-            stop: Verdict::Refused(Refusal {
-                place: count,
-                cause: Cause::Infeasible,
-            }),
+            stop: Err(Cause::Infeasible.at(count)),
             state: w,
         };
     }
@@ -49,7 +46,7 @@ pub fn close(w: State, f: Figures, coefficient: &[i16; 512], greatest: i64, coun
     let low = closed.low;
     closed.low = larger(low, value);
     Stepped {
-        stop: Verdict::Passed,
+        stop: Ok(()),
         state: closed,
     }
 }

@@ -1,10 +1,9 @@
 -- What steps and looks hand back, where they are refused and where they are not.
-use Rattle.std.specs.Prelude.{◌≡◌, true, false, ℕ, suc}
+use Rattle.std.specs.Prelude.{◌≡◌, true, false, ℕ, suc, Ok, Err}
 use Rattle.std.proofs.Math.Path.{sym, ap}
 use Rattle.std.proofs.Common.{◌∙◌}
 use Rattle.std.proofs.Math.Option.{Option, none, some}
 use Rattle.rules.specs.declared.Refusal.{Refusal}
-use Rattle.rules.specs.declared.Verdict.TheVariants.{Passed, Refused}
 use Rattle.rules.specs.Problem.{Problem}
 use Rattle.rules.specs.Step.{infeasible, diverged}
 use Rattle.rules.specs.Run.{state_after, look_after}
@@ -42,7 +41,7 @@ module _ (P : Problem) (t : ℕ) where
 -- ---- what is handed back
 module _ (P : Problem) {done : State} {met : Option Numbered} {r : Stepped} where
   -- at a refusal, the state after the steps before it
-  pub hands-stop : {w : State} (refusal : Refusal) → r ≡ record { stop = Refused refusal; state = w }
+  pub hands-stop : {w : State} (refusal : Refusal) → r ≡ record { stop = Err refusal; state = w }
       → met ≡ some (numbered refusal) → w ≡ reached_in P refusal.place → HandedBack P done met r
   unfolding refusal_of handed_state numbered
   hands-stop refusal e m s = record {
@@ -51,6 +50,6 @@ module _ (P : Problem) {done : State} {met : Option Numbered} {r : Stepped} wher
   }
 
   -- and else the state at the end
-  pub hands-state : r.stop ≡ Passed → met ≡ none → r.state ≡ done → HandedBack P done met r
+  pub hands-state : r.stop ≡ Ok tt → met ≡ none → r.state ≡ done → HandedBack P done met r
   unfolding refusal_of handed_state
   hands-state g m s = record { stop = ap refusal_of g ∙ sym m; state = s ∙ (λ i. handed_state P done (sym m i)) }

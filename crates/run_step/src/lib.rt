@@ -7,7 +7,7 @@ ghost use Rattle.sheet_figures.specs.Figures.{problem_of};
 ghost use Rattle.run_step.specs.States.{reached_in, HandedBack};
 ghost use Rattle.run_step.specs.Reached.{LookReady};
 
-use rules::{Cause, Refusal, Verdict};
+use rules::{Cause, Refusal};
 use run_arithmetic::larger;
 use run_look::look_at;
 use run_moves::move_multipliers;
@@ -30,19 +30,16 @@ pub struct State {
 // What a step hands back: the whole state, and beside it the stop.
 #[derive(Clone, Copy)]
 pub struct Stepped {
-    pub stop: Verdict,
+    pub stop: Result<(), Refusal>,
     pub state: State,
 }
 
 // A stop at step t, which leaves the state as it was.
 fn stopped(state: State, t: usize, cause: Cause) -> Stepped
-    ensures { result ≡ record { stop = Verdict.Refused (record { place = t; cause = cause }); state = state } }
+    ensures { result ≡ record { stop = Err (record { place = t; cause = cause }); state = state } }
 {
     Stepped {
-        stop: Verdict::Refused(Refusal {
-            place: t,
-            cause: cause,
-        }),
+        stop: Err(cause.at(t)),
         state: state,
     }
 }
@@ -83,7 +80,7 @@ impl State {
         let low = w.low;
         w.low = larger(low, value);
         Stepped {
-            stop: Verdict::Passed,
+            stop: Ok(()),
             state: w,
         }
     }

@@ -1,9 +1,9 @@
 -- One turn of the run: a step that goes on, and one that is refused; and the closing look after the last.
+use Rattle.std.specs.Prelude.{Ok, Err}
 use Rattle.std.proofs.Common.{◌≡◌, ℕ, suc, ◌+◌, ◌<◌, sym, ap, ◌∙◌, add-one}
 use mathlib.Core.Path.{transport}
 use Rattle.std.proofs.Math.Option.{none, some}
 use Rattle.rules.specs.declared.Refusal.{Refusal}
-use Rattle.rules.specs.declared.Verdict.TheVariants.{Passed, Refused}
 use Rattle.rules.specs.Problem.{Problem}
 use Rattle.rules.specs.Refusals.{numbered, refusal_of}
 use Rattle.rules.specs.Answers.{look_refusal, refusal_at, step_refusal, run_refusal}
@@ -16,7 +16,7 @@ use Rattle.run_step.specs.States.{reached_in, handed_state, HandedBack}
 module _ (P : Problem) (t : ℕ) {r : Stepped}
     (before : step_refusal P t ≡ none) (h : HandedBack P (reached_in P (suc t)) (refusal_at P t) r) where
   -- the step goes on
-  module _ (g : r.stop ≡ Passed) where
+  module _ (g : r.stop ≡ Ok tt) where
     none_here : refusal_at P t ≡ none
     unfolding refusal_of
     none_here = sym h.stop ∙ ap refusal_of g
@@ -33,7 +33,7 @@ module _ (P : Problem) (t : ℕ) {r : Stepped}
         ∙ (λ i. reached_in P (sym (add-one t) i))
 
   -- the step is refused
-  pub hands_on : (k : ℕ) → t < k → {x : Refusal} {done : State} → r.stop ≡ Refused x
+  pub hands_on : (k : ℕ) → t < k → {x : Refusal} {done : State} → r.stop ≡ Err x
       → HandedBack P done (run_refusal P k) r
   unfolding refusal_of handed_state step_refusal run_refusal
   hands_on k l {x} {done} g =

@@ -6,7 +6,6 @@ ghost use Rattle.sheet_figures.specs.Figures.{problem_of};
 ghost use Rattle.run_step.specs.Reached.{FiguresReady};
 ghost use Rattle.run_step.specs.States.{closed_in, HandedBack};
 
-use rules::Verdict;
 use run_close::close;
 use run_costs::{cheapest_value, greatest_value};
 use run_step::{State, Stepped};
@@ -24,7 +23,7 @@ pub fn run(f: Figures, coefficient: &[i16; 512]) -> Stepped
     let low = cheapest_value(f.materials, f.scale, &f.cost, &f.least, &f.most);
     let starts = f.start;
     let mut r = Stepped {
-        stop: Verdict::Passed,
+        stop: Ok(()),
         state: State {
             multipliers: starts,
             sums: [0; 32],
@@ -37,7 +36,7 @@ pub fn run(f: Figures, coefficient: &[i16; 512]) -> Stepped
         let w = r.state;
         r = w.step(f, coefficient, greatest, t);
         let stop = r.stop;
-        let Verdict::Passed = stop else {
+        let Ok(()) = stop else {
             return r;
         };
         t += 1;

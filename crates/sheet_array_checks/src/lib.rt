@@ -9,8 +9,7 @@ ghost use Rattle.sheet_arrays.specs.Runs.{entry};
 ghost use Rattle.sheet_arrays.specs.Tested.{outside, any_outside, arrays_outside};
 ghost use Rattle.sheet_array_checks.specs.Checks.{SmallShape, amounts_refusal, AsMany};
 
-use rules::{Cause, Kind, Shape, Sizes, Verdict};
-use sheet_header::refused;
+use rules::{Cause, Kind, Refusal, Shape, Sizes};
 use sheet_ranges::in_range;
 use sheet_sizes::{dimensions_in_range, parameters_in_range};
 
@@ -103,7 +102,7 @@ fn lengths_match(
 }
 
 // Refusal 7: the first material whose least amount is above its most.
-fn check_amounts(least: &[i32], most: &[i32]) -> Verdict
+fn check_amounts(least: &[i32], most: &[i32]) -> Result<(), Refusal>
     requires { AsMany least.now most.now }
     ensures { refusal_of result ≡ amounts_refusal least.now most.now }
 {
@@ -112,11 +111,11 @@ fn check_amounts(least: &[i32], most: &[i32]) -> Verdict
         let lowest = least[j];
         let highest = most[j];
         if highest < lowest {
-            return refused(j, Cause::Bounds);
+            return Err(Cause::Bounds.at(j));
         }
         j += 1;
     }
-    Verdict::Passed
+    Ok(())
 }
 
 // Refusals 2, 4, 6 and 7, in this order.
@@ -128,22 +127,22 @@ pub fn check_arrays(
     a: &[i32],
     b: &[i32],
     start: &[i32],
-) -> Verdict
+) -> Result<(), Refusal>
     ensures { refusal_of result ≡ arrays_refusal sizes (arrays cost.now least.now
         most.now a.now b.now start.now) }
 {
     let shape = sizes.shape;
     if !dimensions_in_range(shape, 0) {
-        return refused(0, Cause::Dimensions);
+        return Err(Cause::Dimensions.at(0));
     }
     if !lengths_match(shape, cost, least, most, a, b, start) {
-        return refused(0, Cause::Dimensions);
+        return Err(Cause::Dimensions.at(0));
     }
     if !parameters_in_range(sizes) {
-        return refused(0, Cause::Parameters);
+        return Err(Cause::Parameters.at(0));
     }
     if figures_outside(cost, least, most, a, b, start) {
-        return refused(0, Cause::Value);
+        return Err(Cause::Value.at(0));
     }
     check_amounts(least, most)
 }

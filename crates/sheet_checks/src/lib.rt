@@ -8,13 +8,13 @@ ghost use Rattle.sheet_header.specs.Header.{Headed};
 ghost use Rattle.sheet_checks.specs.Bounds.{FewMaterials, crossed_refusal};
 
 use bytes_read::size_at;
-use rules::{Cause, Verdict};
-use sheet_entries::{Key, read_key};
-use sheet_header::{Header, refused};
+use rules::{Cause, Refusal};
+use sheet_entries::read_key;
+use sheet_header::Header;
 use sheet_table::place_at;
 
 // Refusal 5: the first entry whose key is bad.
-pub fn check_keys(s: &[u8], header: Header) -> Verdict
+pub fn check_keys(s: &[u8], header: Header) -> Result<(), Refusal>
     requires { Headed s.now header }
     ensures { refusal_of result ≡ key_refusal (sheet_of s.now) }
 {
@@ -25,18 +25,17 @@ pub fn check_keys(s: &[u8], header: Header) -> Verdict
     let mut floor: usize = 0;
     let mut i: usize = 0;
     while i < e {
-        let read = read_key(shape, floor, size_at(s, keys + 2 * i));
-        let Key::Good(key) = read else {
-            return refused(i, Cause::Key);
+        let Some(key) = read_key(shape, floor, size_at(s, keys + 2 * i)) else {
+            return Err(Cause::Key.at(i));
         };
         floor = key + 1;
         i += 1;
     }
-    Verdict::Passed
+    Ok(())
 }
 
 // Refusal 7: the first material whose least amount is above its most.
-pub fn check_bounds(n: usize, table: &[i32; 646]) -> Verdict
+pub fn check_bounds(n: usize, table: &[i32; 646]) -> Result<(), Refusal>
     requires { FewMaterials n }
     ensures { refusal_of result ≡ crossed_refusal n table.now }
 {
@@ -45,9 +44,9 @@ pub fn check_bounds(n: usize, table: &[i32; 646]) -> Verdict
         let least = table[place_at(1, j)];
         let most = table[place_at(2, j)];
         if most < least {
-            return refused(j, Cause::Bounds);
+            return Err(Cause::Bounds.at(j));
         }
         j += 1;
     }
-    Verdict::Passed
+    Ok(())
 }

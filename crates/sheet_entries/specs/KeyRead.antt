@@ -1,16 +1,14 @@
 -- Reading a key.
-use Rattle.std.specs.Prelude.{Bool, ◌||◌, ℕ, ltb}
+use Rattle.std.specs.Prelude.{Bool, ◌||◌, ℕ, ltb, Option, Some, None}
 use Rattle.rules.specs.declared.Shape.{Shape}
 use Rattle.rules.specs.Sheet.{row_of, column_of}
 use Rattle.rules.specs.Refusals.{no_figure_at}
 use Rattle.proof_laws.specs.Read.{Read, gives, refused, unless}
-use Rattle.sheet_entries.specs.declared.Key.{Key}
-use Rattle.sheet_entries.specs.declared.Key.TheVariants.{Good, Bad}
 
 -- what each answer stands for: the key, or refusal 5
-unfoldable pub key_answered : Key → Read ℕ
-key_answered (Good key) = gives key
-key_answered Bad = refused 5
+unfoldable pub key_answered : Option ℕ → Read ℕ
+key_answered (Some key) = gives key
+key_answered None = refused 5
 
 -- is a key bad, where `floor` is the least that it may be?
 abbrev pub key_bad : Shape → ℕ → ℕ → Bool

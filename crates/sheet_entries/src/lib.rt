@@ -7,54 +7,38 @@ ghost use Rattle.sheet_entries.specs.KeyRead.{key_answered, key_read};
 ghost use Rattle.sheet_entries.specs.EntryRead.{entry_answered, entry_read};
 
 use rules::{Cause, Shape};
-use sheet_kinds::{Meaning, meaning_at};
+use sheet_kinds::meaning_at;
 use sheet_ranges::in_range;
 
-// What reading an entry's key gives: the key, or refusal 5.
-#[derive(Drop)]
-pub enum Key {
-    Good(usize),
-    Bad,
-}
-
-// What reading an entry gives: its value, or the refusal of its key or of its value.
-#[derive(Drop)]
-pub enum EntryValue {
-    Good(i32),
-    Bad(Cause),
-}
-
-// A key. `floor` is the least that it may be: one more than the key before, if there is one, and else 0.
-pub fn read_key(shape: Shape, floor: usize, key: usize) -> Key
+// A key, or none where it is bad (refusal 5). `floor` is the least that it may be: one more than the key before, if
+// there is one, and else 0.
+pub fn read_key(shape: Shape, floor: usize, key: usize) -> Option<usize>
     requires { FewLimits shape }
     ensures { key_answered result ≡ key_read shape floor key }
 {
-    let meaning = meaning_at(shape, key / 64, key % 64);
-    let Meaning::Figure(_) = meaning else {
-        return Key::Bad;
-    };
+    meaning_at(shape, key / 64, key % 64)?;
     if key < floor {
-        return Key::Bad;
+        return None;
     }
-    Key::Good(key)
+    Some(key)
 }
 
-// An entry: refusal 5 where its key names no figure, and 6 where its value is 0 or outside its range.
-pub fn read_entry(shape: Shape, key: usize, value: i32) -> EntryValue
+// The value of an entry, or why it is refused: 5 where its key names no figure, and 6 where its value is 0 or outside
+// its range.
+pub fn read_entry(shape: Shape, key: usize, value: i32) -> Result<i32, Cause>
     requires { FewLimits shape }
     ensures { entry_answered result ≡ entry_read shape key value }
 {
     let row = key / 64;
     let column = key % 64;
-    let meaning = meaning_at(shape, row, column);
-    let Meaning::Figure(kind) = meaning else {
-        return EntryValue::Bad(Cause::Key);
+    let Some(kind) = meaning_at(shape, row, column) else {
+        return Err(Cause::Key);
     };
     if value == 0 {
-        return EntryValue::Bad(Cause::Value);
+        return Err(Cause::Value);
     }
     if !in_range(kind, value) {
-        return EntryValue::Bad(Cause::Value);
+        return Err(Cause::Value);
     }
-    EntryValue::Good(value)
+    Ok(value)
 }

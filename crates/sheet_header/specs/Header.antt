@@ -1,5 +1,5 @@
 -- The header of a sheet: its sizes, refusals 1 to 4, and what a sheet that passed them has.
-use Rattle.std.specs.Prelude.{◌≡◌, refl, List, ℕ, ◌+◌, ◌*◌, ltb, length}
+use Rattle.std.specs.Prelude.{◌≡◌, refl, List, ℕ, ◌+◌, ◌*◌, ltb, length, Option, Some, None}
 use Rattle.std.proofs.Common.{sym, ap, eqb-true}
 use Rattle.std.proofs.Math.Path.{transport}
 use Rattle.std.proofs.Math.Option.{none}
@@ -10,8 +10,6 @@ use Rattle.proof_laws.specs.Read.{Read, gives, refused, unless}
 use Rattle.proof_laws.specs.Sizes.{SizesInRange, dimensions}
 use Rattle.proof_laws.specs.NotRefused.{otherwise-none, refuse-false}
 use Rattle.sheet_header.specs.declared.Header.{Header}
-use Rattle.sheet_header.specs.declared.HeaderRead.{HeaderRead}
-use Rattle.sheet_header.specs.declared.HeaderRead.TheVariants.{Whole, Short}
 
 -- ---- reading it
 -- the header of a sheet's bytes
@@ -19,9 +17,9 @@ abbrev pub header_of : List ℕ → Header
 header_of s = record { sizes = (sheet_of s).sizes; entries = (sheet_of s).entries; length = header_length }
 
 -- what each answer stands for: a header, or refusal 1
-unfoldable pub header_answered : HeaderRead → Read Header
-header_answered (Whole header) = gives header
-header_answered Short = refused 1
+unfoldable pub header_answered : Option Header → Read Header
+header_answered (Some header) = gives header
+header_answered None = refused 1
 
 unfoldable pub header_read : List ℕ → Read Header
 header_read s = unless 1 (ltb (length s) header_length) (gives (header_of s))

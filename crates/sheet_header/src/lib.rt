@@ -7,7 +7,7 @@ ghost use Rattle.rules.specs.Refusals.{refusal_of, sizes_refusal};
 ghost use Rattle.sheet_header.specs.Header.{HasHeader, header_answered, header_read};
 
 use bytes_read::size_at;
-use rules::{Cause, Refusal, Shape, Sizes, Verdict};
+use rules::{Cause, Refusal, Shape, Sizes};
 use sheet_sizes::{dimensions_in_range, parameters_in_range};
 
 // How long the header is: six sizes of 2 bytes.
@@ -21,31 +21,15 @@ pub struct Header {
     pub length: usize,
 }
 
-// What reading a header gives: the header, or refusal 1.
-#[derive(Drop)]
-pub enum HeaderRead {
-    Whole(Header),
-    Short,
-}
-
-// A refusal, as a verdict.
-pub fn refused(place: usize, cause: Cause) -> Verdict
-    ensures { result ≡ Verdict.Refused (record { place = place; cause = cause }) }
-{
-    Verdict::Refused(Refusal {
-        place: place,
-        cause: cause,
-    })
-}
-
-// The header of a sheet: n, m, e, p, D and k come first, 2 bytes each.
-pub fn read_header(s: &[u8]) -> HeaderRead
+// The header of a sheet, or none where the sheet is too short for one (refusal 1): n, m, e, p, D and k come first, 2
+// bytes each.
+pub fn read_header(s: &[u8]) -> Option<Header>
     ensures { header_answered result ≡ header_read s.now }
 {
     if s.len() < HEADER {
-        return HeaderRead::Short;
+        return None;
     }
-    HeaderRead::Whole(Header {
+    Some(Header {
         sizes: Sizes {
             shape: Shape {
                 materials: size_at(s, 0),
@@ -61,7 +45,7 @@ pub fn read_header(s: &[u8]) -> HeaderRead
 }
 
 // Refusals 2 to 4.
-pub fn check_header(s: &[u8], header: Header) -> Verdict
+pub fn check_header(s: &[u8], header: Header) -> Result<(), Refusal>
     requires { HasHeader s.now header }
     ensures { refusal_of result ≡ sizes_refusal (sheet_of s.now) (length s.now) }
 {
@@ -69,14 +53,14 @@ pub fn check_header(s: &[u8], header: Header) -> Verdict
     let shape = sizes.shape;
     let e = header.entries;
     if !dimensions_in_range(shape, e) {
-        return refused(0, Cause::Dimensions);
+        return Err(Cause::Dimensions.at(0));
     }
     let keys = header.length;
     if s.len() != keys + 6 * e {
-        return refused(0, Cause::Length);
+        return Err(Cause::Length.at(0));
     }
     if !parameters_in_range(sizes) {
-        return refused(0, Cause::Parameters);
+        return Err(Cause::Parameters.at(0));
     }
-    Verdict::Passed
+    Ok(())
 }

@@ -1,4 +1,4 @@
-// What a row and a column of a sheet mean: a figure of a kind, or nothing.
+// What a row and a column of a sheet mean: a figure of a kind, or none.
 #![tactic(auto)]
 
 ghost use Rattle.std.specs.Prelude.{◌≡◌, ◌||◌, ◌+◌, ltb, leb};
@@ -8,44 +8,33 @@ ghost use Rattle.proof_laws.specs.Read.{gives, unless};
 
 use rules::{Kind, Shape};
 
-// What stands at a row and a column of a sheet.
-#[derive(Drop)]
-pub enum Meaning {
-    Figure(Kind),
-    Nothing,
-}
-
 // A figure of a material stands in the columns below n.
-fn of_material(kind: Kind, shape: Shape, column: usize) -> Meaning
+fn of_material(kind: Kind, shape: Shape, column: usize) -> Option<Kind>
     ensures { meaning_of result
         ≡ unless 5 (ltb (shape.materials + 1) column || leb shape.materials column) (gives kind) }
 {
     let n = shape.materials;
-    if n <= column {
-        Meaning::Nothing
-    } else {
-        Meaning::Figure(kind)
-    }
+    if n <= column { None } else { Some(kind) }
 }
 
 // In a limit's row, its coefficients stand in the columns below n, then its right-hand side and its start.
-fn of_limit(shape: Shape, column: usize) -> Meaning
+fn of_limit(shape: Shape, column: usize) -> Option<Kind>
     ensures { meaning_of result ≡ unless 5 (ltb (shape.materials + 1) column) (gives (kind_at shape 3 column)) }
 {
     let n = shape.materials;
     if column < n {
-        return Meaning::Figure(Kind::Coefficient);
+        return Some(Kind::Coefficient);
     }
     let past = column - n;
     match past {
-        0 => Meaning::Figure(Kind::Rhs),
-        1 => Meaning::Figure(Kind::Start),
-        _ => Meaning::Nothing,
+        0 => Some(Kind::Rhs),
+        1 => Some(Kind::Start),
+        _ => None,
     }
 }
 
 // What stands at a row and a column (T3.2).
-pub fn meaning_at(shape: Shape, row: usize, column: usize) -> Meaning
+pub fn meaning_at(shape: Shape, row: usize, column: usize) -> Option<Kind>
     requires { FewLimits shape }
     ensures { meaning_of result ≡ meaning_at shape row column }
 {
@@ -58,9 +47,9 @@ pub fn meaning_at(shape: Shape, row: usize, column: usize) -> Meaning
             if row <= m + 2 {
                 of_limit(shape, column)
             } else {
-                Meaning::Nothing
+                None
             }
         }
-        _ => Meaning::Nothing,
+        _ => None,
     }
 }

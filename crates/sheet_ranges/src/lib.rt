@@ -1,8 +1,8 @@
 // The table of ranges, a constant. Whoever reads, writes or edits a sheet consults it.
 #![tactic(auto)]
 
-ghost use Rattle.std.specs.Prelude.{◌<◌, ◌≡◌};
-ghost use Rattle.rules.specs.Ranges.{index_of, range_of, in_range};
+ghost use Rattle.std.specs.Prelude.{◌≡◌};
+ghost use Rattle.rules.specs.Ranges.{range_of, in_range};
 
 use rules::{Kind, Range};
 
@@ -46,26 +46,12 @@ const RANGES: [Range; 6] = [
     },
 ];
 
-// Where a kind of figure stands in the table.
-#[tactic(auto, unfolding(rules::specs::Ranges::index_of))]
-fn index_of(kind: Kind) -> usize
-    ensures { (result ≡ index_of kind) × (result < 6) }
-{
-    match kind {
-        Kind::Cost => 0,
-        Kind::Least => 1,
-        Kind::Most => 2,
-        Kind::Coefficient => 3,
-        Kind::Rhs => 4,
-        Kind::Start => 5,
-    }
-}
-
-// The range of a kind of figure: an entry of the table.
+// The range of a kind of figure: an entry of the table, which has the kinds in their order.
+#[tactic(auto, unfolding(rules::specs::Ranges::ranges, rules::specs::Ranges::index_of, rules::specs::Ranges::range_of))]
 fn range_of(kind: Kind) -> Range
     ensures { result ≡ range_of kind }
 {
-    RANGES[index_of(kind)]
+    RANGES[kind as usize]
 }
 
 // Whether a value lies in the range of its kind.

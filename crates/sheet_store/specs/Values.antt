@@ -1,9 +1,8 @@
 -- The pass over the values: refusal 6, and the table while the entries are stored.
-use Rattle.std.specs.Prelude.{◌≡◌, refl, List, ℕ, ◌+◌, ℤ, pos, set}
+use Rattle.std.specs.Prelude.{◌≡◌, refl, List, ℕ, ◌+◌, ℤ, pos, set, Result, Ok, Err, ⊤}
 use Rattle.std.proofs.Common.{sym, ◌∙◌, add-one}
 use borrow.Author.Tests.{eq-eqb, ne_eqb}
-use Rattle.rules.specs.declared.Verdict.{Verdict}
-use Rattle.rules.specs.declared.Verdict.TheVariants.{Passed, Refused}
+use Rattle.rules.specs.declared.Refusal.{Refusal}
 use Rattle.rules.specs.Sheet.{Sheet, row_of, column_of, value_under}
 use Rattle.proof_laws.specs.Entries.{parts-key}
 use Rattle.sheet_header.specs.declared.Header.{Header}
@@ -17,9 +16,9 @@ pub record ReadyToStore (s : List ℕ) (h : Header) (table : List ℤ) : Type 0 
   pub empty : table ≡ tabled (λ _. pos 0)
 
 -- how many entries are stored: those before the refused one, or all e
-unfoldable pub stored_by : Verdict → ℕ → ℕ
-stored_by Passed e = e
-stored_by (Refused r) e = r.place
+unfoldable pub stored_by : Result ⊤ Refusal → ℕ → ℕ
+stored_by (Ok passed) e = e
+stored_by (Err r) e = r.place
 
 -- ---- one entry more
 module _ (S : Sheet) (i : ℕ) where

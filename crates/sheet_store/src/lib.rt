@@ -8,14 +8,14 @@ ghost use Rattle.sheet_table.specs.Tabled.{tabled};
 ghost use Rattle.sheet_store.specs.Values.{ReadyToStore, stored_by};
 
 use bytes_read::{signed_32, size_at};
-use rules::{Cause, Verdict};
-use sheet_entries::{EntryValue, read_entry};
-use sheet_header::{Header, refused};
+use rules::{Cause, Refusal};
+use sheet_entries::read_entry;
+use sheet_header::Header;
 use sheet_table::place_at;
 
 // Refusal 6: the first entry whose value is bad. The values of the entries before it are stored, each under its key.
 // No key is bad here, so that it is the value where an entry is.
-pub fn store_entries(s: &[u8], header: Header, table: &mut [i32; 646]) -> Verdict
+pub fn store_entries(s: &[u8], header: Header, table: &mut [i32; 646]) -> Result<(), Refusal>
     requires { ReadyToStore s.now header table.old }
     ensures result_value { refusal_of result ≡ value_refusal (sheet_of s.now) }
     ensures table_after { table.new
@@ -28,13 +28,12 @@ pub fn store_entries(s: &[u8], header: Header, table: &mut [i32; 646]) -> Verdic
     let mut i: usize = 0;
     while i < e {
         let key = size_at(s, keys + 2 * i);
-        let entry = read_entry(shape, key, signed_32(s, keys + 2 * e + 4 * i));
-        let EntryValue::Good(value) = entry else {
-            return refused(i, Cause::Value);
+        let Ok(value) = read_entry(shape, key, signed_32(s, keys + 2 * e + 4 * i)) else {
+            return Err(Cause::Value.at(i));
         };
         let at = place_at(key / 64, key % 64);
         table[at] = value;
         i += 1;
     }
-    Verdict::Passed
+    Ok(())
 }

@@ -8,7 +8,7 @@ ghost use Rattle.rules_arrays.specs.ReadBack.{figures_present};
 ghost use Rattle.bytes_write.specs.Written.{written};
 ghost use Rattle.sheet_write.specs.Ready.{Short, SheetReady};
 
-use rules::{Cause, Output, Refusal, Sizes, Verdict};
+use rules::{Cause, Refusal, Sizes};
 use sheet_array_checks::{check_arrays, present_in};
 use sheet_put::put_sizes;
 use sheet_rows::put_entries;
@@ -63,7 +63,7 @@ pub fn write_sheet(
     b: &[i32],
     start: &[i32],
     sheet: &mut [u8],
-) -> Output
+) -> Result<usize, Refusal>
     ensures { Writes
         (sheet_from sizes (arrays cost.now least.now most.now a.now
         b.now start.now))
@@ -71,20 +71,12 @@ pub fn write_sheet(
         b.now start.now) (length sheet.old))
         sheet.old sheet.new result }
 {
-    let verdict = check_arrays(sizes, cost, least, most, a, b, start);
-    match verdict {
-        Verdict::Refused(refusal) => Output::Refused(refusal),
-        Verdict::Passed => {
-            let e = count_entries(cost, least, most, a, b, start);
-            let wanted = 12 + 6 * e;
-            if sheet.len() < wanted {
-                return Output::Refused(Refusal {
-                    place: wanted,
-                    cause: Cause::Buffer,
-                });
-            }
-            put_sheet(sheet, e, sizes, cost, least, most, a, b, start);
-            Output::Wrote(wanted)
-        }
+    check_arrays(sizes, cost, least, most, a, b, start)?;
+    let e = count_entries(cost, least, most, a, b, start);
+    let wanted = 12 + 6 * e;
+    if sheet.len() < wanted {
+        return Err(Cause::Buffer.at(wanted));
     }
+    put_sheet(sheet, e, sizes, cost, least, most, a, b, start);
+    Ok(wanted)
 }

@@ -3,4 +3,4 @@ use Rattle.batchplan_lib.specs.WroteText.{wrote_text-of}
 use Rattle.batchplan_lib.proofs.batchplan_mps.Goals as goal
 
 pub returns : goal.returns
-returns c = wrote_text-of _ c.write_mps-output.ensures c.pair_of-told.ensures
+returns c = wrote_text-of _ c.write_mps.ensures c.from-told.ensures

@@ -9,8 +9,8 @@ use Rattle.batchplan_lib.proofs.batchplan_plan.Goals as goal
 
 pub returns : goal.returns
 returns c =
-    let promise = c.plan-answer.ensures in
-    let numbers = c.numbers_of-numbers in
+    let promise = c.plan.ensures in
+    let numbers = c.from-numbers in
     let low : SFits w64 numbers.result.low = search rules in
     let gap : SFits w64 numbers.result.gap = search rules in
     record {

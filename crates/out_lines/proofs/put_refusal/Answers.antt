@@ -11,7 +11,7 @@ pub returns : goal.returns
 unfolding numbered text
 returns c =
     let place = c.args.refusal.place in
-    let number = c.number_of in
+    let number = c.from in
     let read : Numbered = record { number = number.result; place = place } in
     let is : refusal_text read ≡ _ = ap (λ v. refusal_text (record { number = v; place = place })) number.ensures in
     let word = c.put_bytes-named.ensures in

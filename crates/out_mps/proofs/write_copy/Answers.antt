@@ -9,7 +9,7 @@ use Rattle.out_mps.proofs.write_copy.Goals as goal
 
 pub returns-then-text-end : goal.returns-then-text-end
 unfolding longest_mps
-returns-then-text-end c = refused-copy c.put_text-end.ensures (text-short c.requires) (omega arith)
+returns-then-text-end c = refused-copy c.put_text-end.ensures (text-short c.requires) c.at.ensures (omega arith)
 
 pub slice_bounds-put_bytes-end : goal.slice_bounds-put_bytes-end
 unfolding longest_mps

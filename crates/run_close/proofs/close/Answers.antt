@@ -1,5 +1,5 @@
 -- The look is that of the run, and what comes back is the state with low, or refusal 9 with the state as it was.
-use Rattle.std.proofs.Common.{◌≡◌, ℕ, List, ℤ, refl, sym, ◌∙◌, rules, SFits, to_z, of_z, to_z-of_z}
+use Rattle.std.proofs.Common.{◌≡◌, ℕ, List, ℤ, refl, sym, ◌∙◌, rules, SFits, to_z, of_z, to_z-of_z, Err}
 use Rattle.std.specs.Int.{w64}
 use Rattle.std.specs.Int.Signed.{lt_z}
 use Rattle.rules.specs.Notation.{maxℤ, at}
@@ -45,7 +45,8 @@ returns-then-greatest-value c =
     let P : Problem = problem_of c.args.f c.args.coefficient.now in
     let v-fits : SFits w64 c.look_at-value.result = search rules in
     let same = test-9 c.requires c.look_at-value.ensures v-fits c.ranges.greatest in
-    hands-stop P _ refl (look-refused P c.args.count (sym same ∙ c.if-greatest-value.true)) c.requires.reached.state
+    hands-stop P _ (λ k. record { stop = Err (c.at.ensures k); state = c.args.w })
+    (look-refused P c.args.count (sym same ∙ c.if-greatest-value.true)) c.requires.reached.state
 
 pub returns : goal.returns
 unfolding state_in closed_in

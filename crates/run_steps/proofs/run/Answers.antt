@@ -57,7 +57,7 @@ pub loop-t-preserved : goal.loop-t-preserved
 loop-t-preserved c =
     let P : Problem = problem_of c.args.f c.args.coefficient.now in
     let reached = c.loop-t.invariant.1 in
-    let going = c.in-Passed.is in (
+    let going = c.in-Ok.is in (
       going,
       record {
         accepted = reached.accepted;

@@ -1,6 +1,6 @@
 -- A turn: the test compares the amounts of material j as they stand in their arrays.
 use Rattle.std.proofs.Common.{◌≡◌, rules, sym, ap, ◌∙◌, Bool, true, false, List, ℕ, ℤ, length, arith, w32, to_z, of_z}
-use Rattle.std.proofs.Common.{to_z-of_z}
+use Rattle.std.proofs.Common.{to_z-of_z, Err}
 use Rattle.std.specs.Int.Signed.{lt_z}
 use mir.Val.{SFits}
 use Rattle.rules.specs.Notation.{at}
@@ -24,7 +24,7 @@ returns-then-highest-lowest c =
     let mosts = c.args.most.now in
     let found = scan-found 7 (above leasts mosts) (length leasts) c.loop-j-test.true c.loop-j.invariant.1
     (test-is leasts mosts c.loop-j.j true (search rules) (search rules) c.if-highest-lowest.true) in
-    ap refusal_of c.refused.ensures ∙ sym found
+    ap (λ r. refusal_of (Err r)) c.at.ensures ∙ sym found
 
 pub loop-j-preserved : goal.loop-j-preserved
 loop-j-preserved c =

@@ -1,5 +1,5 @@
 -- Each test that passes hands on to the next.
-use Rattle.std.proofs.Common.{sym, ap, ◌∙◌}
+use Rattle.std.proofs.Common.{sym, ap, ◌∙◌, Err}
 use Rattle.rules.specs.Refusals.{number_of, numbered, refusal_of}
 use Rattle.rules_arrays.specs.Arrays.{arrays}
 use Rattle.sheet_arrays.specs.Lengths.{lengths-match}
@@ -10,7 +10,7 @@ use Rattle.sheet_array_checks.proofs.check_arrays.Goals as goal
 pub returns-then-not-dimensions_in_range : goal.returns-then-not-dimensions_in_range
 unfolding refusal_of numbered number_of
 returns-then-not-dimensions_in_range c =
-    ap refusal_of c.refused.ensures
+    ap (λ r. refusal_of (Err r)) c.at.ensures
     ∙ sym (shape-refused _ _ (sym c.if-not-dimensions_in_range.ensures))
 
 pub lengths_match-requires : goal.lengths_match-requires
@@ -23,14 +23,14 @@ lengths_match-requires c =
 pub returns-then-not-lengths_match : goal.returns-then-not-lengths_match
 unfolding refusal_of numbered number_of
 returns-then-not-lengths_match c =
-    ap refusal_of c.refused-then-not-lengths_match.ensures
+    ap (λ r. refusal_of (Err r)) c.at-then-not-lengths_match.ensures
     ∙ sym (lengths-refused _ _ (sym c.if-not-dimensions_in_range.ensures) (sym c.if-not-lengths_match.ensures))
 
 -- ---- p, D and k
 pub returns-then-not-parameters_in_range : goal.returns-then-not-parameters_in_range
 unfolding refusal_of numbered number_of
 returns-then-not-parameters_in_range c =
-    ap refusal_of c.refused-then-not-parameters_in_range.ensures
+    ap (λ r. refusal_of (Err r)) c.at-then-not-parameters_in_range.ensures
     ∙ sym (parameters-refused _ _ (sym c.if-not-dimensions_in_range.ensures) (sym c.if-not-lengths_match.ensures)
     (sym c.if-not-parameters_in_range.ensures))
 
@@ -38,7 +38,7 @@ returns-then-not-parameters_in_range c =
 pub returns-then-figures_outside : goal.returns-then-figures_outside
 unfolding refusal_of numbered number_of
 returns-then-figures_outside c =
-    ap refusal_of c.refused-then-figures_outside.ensures
+    ap (λ r. refusal_of (Err r)) c.at-then-figures_outside.ensures
     ∙ sym (figures-refused _ _ (sym c.if-not-dimensions_in_range.ensures) (sym c.if-not-lengths_match.ensures)
     (sym c.if-not-parameters_in_range.ensures) (sym c.if-figures_outside.ensures))
 

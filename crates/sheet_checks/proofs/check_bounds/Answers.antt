@@ -1,6 +1,6 @@
 -- The test compares the amounts as they stand in the table.
 use Rattle.std.proofs.Common.{◌≡◌, ◌<◌, ℕ, ℤ, List, Bool, true, false, arith, rules, sym, ap, ◌∙◌, SFits, to_z, of_z}
-use Rattle.std.proofs.Common.{w32}
+use Rattle.std.proofs.Common.{w32, Err}
 use Rattle.std.proofs.lemmas.Int.{to_z-of_z}
 use Rattle.std.specs.Int.Signed.{lt_z}
 use Rattle.rules.specs.Notation.{at}
@@ -32,7 +32,7 @@ returns-then-most-least c =
     let above =
     test-is t j c.place_at.result c.place_at-in-loop-j.result true (omega (arith, c.requires.narrow))
     c.place_at.ensures c.place_at-in-loop-j.ensures (search rules) (search rules) c.if-most-least.true in
-    ap refusal_of c.refused.ensures
+    ap (λ r. refusal_of (Err r)) c.at.ensures
     ∙ sym (scan-found 7 (crossed (table_in t)) c.args.n (omega arith) c.loop-j.invariant.1 above)
 
 pub loop-j-preserved : goal.loop-j-preserved

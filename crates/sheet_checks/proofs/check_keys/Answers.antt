@@ -1,12 +1,10 @@
 -- What is read of entry i is its key, unless the key is bad.
-use Rattle.std.proofs.Common.{◌≡◌, refl, ◌+◌, ◌*◌, ◌<◌, ℕ, List, false, arith, sym, ap, ◌∙◌}
+use Rattle.std.proofs.Common.{◌≡◌, refl, ◌+◌, ◌*◌, ◌<◌, ℕ, List, false, arith, sym, ap, ◌∙◌, Option, Some, Err}
 use Rattle.rules.specs.Bytes.{unsigned_at}
 use Rattle.rules.specs.Sheet.{Sheet, sheet_of}
 use Rattle.rules.specs.Refusals.{number_of, numbered, refusal_of, bad_key, key_refusal}
 use Rattle.proof_laws.specs.FirstPlace.{first-start, first-end, scan-more, scan-found}
 use Rattle.proof_laws.specs.Read.{gives, unless, gives-says, same_gives, refused_says}
-use Rattle.sheet_entries.specs.declared.Key.{Key}
-use Rattle.sheet_entries.specs.declared.Key.TheVariants.{Good}
 use Rattle.sheet_entries.specs.KeyRead.{key_answered, key_read}
 use Rattle.sheet_header.specs.declared.Header.{Header}
 use Rattle.sheet_header.specs.Header.{Headed, entries-is, keys-begin}
@@ -18,7 +16,7 @@ module _ {s : List ℕ} {h : Header} (headed : Headed s h) (i : ℕ) where
   key-read : (key : ℕ) → key ≡ unsigned_at 2 s (h.length + 2 * i) → key ≡ (sheet_of s).key i
   key-read key k = k ∙ ap (unsigned_at 2 s) (omega (arith, keys-begin headed.header))
 
-  read-is : (floor key : ℕ) (read : Key) → floor ≡ floor_of (sheet_of s) i → key ≡ unsigned_at 2 s (h.length + 2 * i)
+  read-is : (floor key : ℕ) (read : Option ℕ) → floor ≡ floor_of (sheet_of s) i → key ≡ unsigned_at 2 s (h.length + 2 * i)
       → key_answered read ≡ key_read h.sizes.shape floor key
       → key_answered read ≡ unless 5 (bad_key (sheet_of s) i) (gives ((sheet_of s).key i))
   unfolding key_read
@@ -39,15 +37,15 @@ returns-in_default c =
     let S = sheet_of c.args.s.now in
     let i = c.loop-i.i in
     let at = c.loop-i.invariant in
-    let read = c.read_key-read in
+    let read = c.read_key in
     let answered = read-is c.requires i c.loop-i.floor c.size_at.result read.result at.floor_is c.size_at.ensures.is
     read.ensures in
     let bad = refused_says 5 5 (bad_key S i) (S.key i) (sym answered ∙ ap key_answered c.in_default.is) in
     let inside : i < S.entries = omega (arith, entries-is c.requires.header) in
-    ap refusal_of c.refused.ensures ∙ sym (scan-found 5 (bad_key S) S.entries inside at.keys bad)
+    ap (λ r. refusal_of (Err r)) c.at.ensures ∙ sym (scan-found 5 (bad_key S) S.entries inside at.keys bad)
 
 -- what an answer with a key says
-good-says : (S : Sheet) (i key : ℕ) (read : Key) → read ≡ Good key
+good-says : (S : Sheet) (i key : ℕ) (read : Option ℕ) → read ≡ Some key
     → key_answered read ≡ unless 5 (bad_key S i) (gives (S.key i)) → (bad_key S i ≡ false) × (S.key i ≡ key)
 unfolding key_answered
 good-says S i key read is answered =
@@ -59,10 +57,10 @@ overflow_add-floor c =
     let S = sheet_of c.args.s.now in
     let i = c.loop-i.i in
     let size = c.size_at.ensures in
-    let read = c.read_key-read in
+    let read = c.read_key in
     let answered = read-is c.requires i c.loop-i.floor c.size_at.result read.result c.loop-i.invariant.floor_is size.is
     read.ensures in
-    let key = (good-says S i c.in-Good.key read.result c.in-Good.is answered).1 in
+    let key = (good-says S i c.in-Some.key read.result c.in-Some.is answered).1 in
     omega (arith, key, key-read c.requires i c.size_at.result size.is, size.small)
 
 pub loop-i-preserved : goal.loop-i-preserved
@@ -70,10 +68,10 @@ loop-i-preserved c =
     let S = sheet_of c.args.s.now in
     let i = c.loop-i.i in
     let at = c.loop-i.invariant in
-    let read = c.read_key-read in
+    let read = c.read_key in
     let answered = read-is c.requires i c.loop-i.floor c.size_at.result read.result at.floor_is c.size_at.ensures.is
     read.ensures in
-    let says = good-says S i c.in-Good.key read.result c.in-Good.is answered in
+    let says = good-says S i c.in-Some.key read.result c.in-Some.is answered in
     record {
       within = omega arith;
       keys = scan-more 5 (bad_key S) at.keys says.0;

@@ -1,5 +1,5 @@
 -- The key's place decides, and then the value's two tests.
-use Rattle.std.proofs.Common.{◌≡◌, sym, ap, ◌∙◌, false, ℕ, ℤ, pos, w32, to_z, of_z, Bool, FitsSigned}
+use Rattle.std.proofs.Common.{◌≡◌, sym, ap, ◌∙◌, false, ℕ, ℤ, pos, w32, to_z, of_z, Bool, FitsSigned, Some}
 use mir.Facts.{to_z-of_z}
 use Rattle.rules.specs.declared.Shape.{Shape}
 use Rattle.rules.specs.declared.Kind.{Kind}
@@ -7,7 +7,6 @@ use Rattle.rules.specs.Sheet.{row_of, column_of}
 use Rattle.rules.specs.Ranges.{range_of, kind_at, in_range}
 use Rattle.rules.specs.Refusals.{number_of, no_figure_at}
 use Rattle.proof_laws.specs.Read.{gives, gives-says, same_gives, refused_says}
-use Rattle.sheet_kinds.specs.declared.Meaning.TheVariants.{Figure}
 use Rattle.sheet_kinds.specs.Meaning.{meaning_of, meaning_at}
 use Rattle.sheet_entries.specs.EntryRead.{entry_answered}
 use Rattle.sheet_entries.proofs.Tests.{no-entry, zero-value, out_of_range, in-range}
@@ -15,7 +14,7 @@ use Rattle.sheet_entries.proofs.read_entry.Goals as goal
 
 -- a figure stands there, of the kind that was found
 module _ (shape : Shape) (key : ℕ) (kind : Kind)
-    (found : meaning_of (Figure kind) ≡ meaning_at shape (row_of key) (column_of key)) where
+    (found : meaning_of (Some kind) ≡ meaning_at shape (row_of key) (column_of key)) where
   figure-there : no_figure_at shape (row_of key) (column_of key) ≡ false
   unfolding meaning_of meaning_at
   figure-there = (gives-says 5 _ _ _ (sym found)).0
@@ -40,20 +39,20 @@ zero-bits value fits bits = sym (to_z-of_z fits) ∙ ap (to_z w32) bits
 pub returns-then-value-eq0 : goal.returns-then-value-eq0
 unfolding entry_answered number_of
 returns-then-value-eq0 c =
-    let there = figure-there c.args.shape c.args.key _ c.in-Figure.ensures in
+    let there = figure-there c.args.shape c.args.key _ c.in-Some.ensures in
     sym (zero-value _ _ _ there (zero-bits c.args.value c.ranges.value c.if-value-eq0.true))
 
 pub returns-then-not-in_range : goal.returns-then-not-in_range
 unfolding entry_answered number_of
 returns-then-not-in_range c =
-    let there = figure-there c.args.shape c.args.key _ c.in-Figure.ensures in
-    let r = range c.args.shape c.args.key _ c.in-Figure.ensures c.args.value c.ranges.value _ c.in_range.ensures in
+    let there = figure-there c.args.shape c.args.key _ c.in-Some.ensures in
+    let r = range c.args.shape c.args.key _ c.in-Some.ensures c.args.value c.ranges.value _ c.in_range.ensures in
     sym (out_of_range _ _ _ there (λ e. c.if-value-eq0.false (ap (of_z w32) e)) (r ∙ c.if-not-in_range.true))
 
 pub returns : goal.returns
 unfolding entry_answered
 returns c =
-    let there = figure-there c.args.shape c.args.key _ c.in-Figure.ensures in
-    let r = range c.args.shape c.args.key _ c.in-Figure.ensures c.args.value c.ranges.value _ c.in_range.ensures in
+    let there = figure-there c.args.shape c.args.key _ c.in-Some.ensures in
+    let r = range c.args.shape c.args.key _ c.in-Some.ensures c.args.value c.ranges.value _ c.in_range.ensures in
     ap gives (to_z-of_z c.ranges.value)
     ∙ sym (in-range _ _ _ there (λ e. c.if-value-eq0.false (ap (of_z w32) e)) (r ∙ c.if-not-in_range.false))

@@ -1,6 +1,6 @@
 -- Each test that fails ends in its own link of the chain; e, in its range, keeps the length small.
 use Rattle.std.proofs.Common.{◌≡◌, ◌≤◌, sym, ap, ◌∙◌, ℕ, ◌+◌, ◌*◌, Bool, true, not, List, length, arith, eq-eqb, ne_eqb}
-use Rattle.std.proofs.Common.{eqb}
+use Rattle.std.proofs.Common.{eqb, Err}
 use Rattle.rules.specs.Sheet.{Sheet, sheet_length, sheet_of}
 use Rattle.rules.specs.Ranges.{dimensions_in_range, parameters_in_range}
 use Rattle.rules.specs.Refusals.{number_of, numbered, refusal_of, refuse, ◌otherwise◌, sizes_refusal}
@@ -48,7 +48,7 @@ pub returns-then-not-dimensions_in_range : goal.returns-then-not-dimensions_in_r
 unfolding refusal_of numbered number_of sizes_refusal
 returns-then-not-dimensions_in_range c =
     let t = tested c.args.s.now c.args.header c.requires _ c.dimensions_in_range.ensures in
-    ap refusal_of c.refused.ensures
+    ap (λ r. refusal_of (Err r)) c.at.ensures
     ∙ sym (given _ (refuse-yes 2 0 (ap not (t ∙ c.if-not-dimensions_in_range.true))))
 
 pub overflow_mul-e : goal.overflow_mul-e
@@ -71,7 +71,7 @@ returns-then-s-keys c =
     let e : sheet_length (sheet_of s).entries ≡ h.length + 6 * h.entries =
     omega (arith, entries-is c.requires, keys-begin c.requires) in
     let out = ap not (ne_eqb (length s) (sheet_length (sheet_of s).entries) (λ q. c.if-s-keys.true (q ∙ e))) in
-    ap refusal_of c.refused-then-s-keys.ensures
+    ap (λ r. refusal_of (Err r)) c.at-then-s-keys.ensures
     ∙ sym (after-dimensions s h c.requires c.dimensions_in_range.ensures c.if-not-dimensions_in_range.false
     ∙ given _ (refuse-yes 3 0 out))
 
@@ -81,7 +81,7 @@ returns-then-not-parameters_in_range c =
     let s = c.args.s.now in
     let h = c.args.header in
     let t = sizes-tested s h c.requires _ c.parameters_in_range.ensures in
-    ap refusal_of c.refused-then-not-parameters_in_range.ensures
+    ap (λ r. refusal_of (Err r)) c.at-then-not-parameters_in_range.ensures
     ∙ sym (after-length s h c.requires c.dimensions_in_range.ensures c.if-not-dimensions_in_range.false
     c.if-s-keys.false
     ∙ refuse-yes 4 0 (ap not (t ∙ c.if-not-parameters_in_range.true)))

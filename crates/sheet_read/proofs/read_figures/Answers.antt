@@ -1,9 +1,8 @@
 -- The table begins empty and ends with the sheet's, unless a value or a least amount is refused; then it is unpacked.
-use Rattle.std.proofs.Common.{◌≡◌, ◌≤◌, ℕ, ℤ, List, length, arith, le-ltb, refl, sym, ap, ◌∙◌}
+use Rattle.std.proofs.Common.{◌≡◌, ◌≤◌, ℕ, ℤ, List, length, arith, le-ltb, sym, ap, ◌∙◌}
+use Rattle.std.proofs.lemmas.Result.{err_from_is_err_and}
 use Rattle.std.proofs.Math.Path.{transport}
 use Rattle.std.proofs.Math.Option.{Option, none}
-use Rattle.rules.specs.declared.Verdict.{Verdict}
-use Rattle.rules.specs.declared.Verdict.TheVariants.{Passed}
 use Rattle.rules.specs.Sheet.{Sheet, header_length, sheet_of, value_under, table_of, problem_from, problem}
 use Rattle.rules.specs.Refusals.{Numbered, refusal_of, value_refusal, bound_refusal, layout_refusal}
 use Rattle.proof_laws.specs.Agreeing.{Agree}
@@ -24,35 +23,26 @@ use Rattle.sheet_read.proofs.Passes.{after-keys}
 use Rattle.sheet_read.proofs.Outcome.{turned-back, read_whole}
 use Rattle.sheet_read.proofs.read_figures.Goals as goal
 
--- a verdict that passes stands for no refusal
-none-of : {v : Verdict} {refusal : Option Numbered} → v ≡ Passed → refusal_of v ≡ refusal → refusal ≡ none
-unfolding refusal_of
-none-of e h = sym h ∙ ap refusal_of e
-
 -- ---- a sheet whose keys are good
 module _ {s : List ℕ} {h : Header} (keyed : Keyed s h) where
   abbrev S : Sheet
   S = sheet_of s
 
   -- where the values are good, the table holds all entries
-  table-is : (v : Verdict) (table : List ℤ) → v ≡ Passed → table ≡ tabled (value_under S (stored_by v h.entries))
-      → table ≡ tabled (table_of S)
-  unfolding stored_by
-  table-is v table e t =
-      let all = ap (λ (w : Verdict). stored_by w h.entries) e ∙ entries-is keyed.headed.header in
-      t ∙ ap (λ k. tabled (value_under S k)) all
+  table-is : (table : List ℤ) → table ≡ tabled (value_under S h.entries) → table ≡ tabled (table_of S)
+  table-is table t = t ∙ ap (λ k. tabled (value_under S k)) (entries-is keyed.headed.header)
 
   -- refusals 6 and 7, in the definition's terms
-  bounds-are : (b : Verdict) (table : List ℤ) → table ≡ tabled (table_of S) → value_refusal S ≡ none
-      → refusal_of b ≡ crossed_refusal h.sizes.shape.materials table → refusal_of b ≡ figures_refusal S
+  bounds-are : {met : Option Numbered} (table : List ℤ) → table ≡ tabled (table_of S) → none ≡ value_refusal S
+      → met ≡ crossed_refusal h.sizes.shape.materials table → met ≡ figures_refusal S
   unfolding figures_refusal
-  bounds-are b table t values checked =
+  bounds-are table t values checked =
       let ranges = sheet-in-range keyed.headed in
       let is = keyed.headed.header.is in
       checked
       ∙ (λ j. crossed_refusal (is j).sizes.shape.materials (t j))
       ∙ crossed-is S.sizes.shape (table_of S) (record { narrow = ranges.narrow })
-      ∙ sym (handed-on (bound_refusal _ _) values)
+      ∙ sym (handed-on (bound_refusal _ _) (sym values))
 
   -- where nothing is refused, the figures are accepted, and the table has them
   same : Agree (problem_from S.sizes (table_in (tabled (table_of S)))) (problem S)
@@ -93,47 +83,42 @@ module _ {s : List ℕ} {h : Header} (keyed : Keyed s h) where
       ∙ (λ j. let g = is j in coefficients_over lent (problem_from g.sizes (table_in (t j))))
       ∙ coefficients-same same lent
 
-pub store_entries-values-requires : goal.store_entries-values-requires
-store_entries-values-requires c = record { keyed = c.requires; empty = sym tabled-zero }
+pub store_entries-requires : goal.store_entries-requires
+store_entries-requires c = record { keyed = c.requires; empty = sym tabled-zero }
 
-pub returns-in_default : goal.returns-in_default
+pub returns-in_err-store_entries : goal.returns-in_err-store_entries
 unfolding refusal_of figures_refusal
-returns-in_default c =
-    let told = ap refusal_of c.in_default.is in
-    turned-back (sheet_of c.args.s.now) c.store_entries-values.result c.without_figures.ensures told
-    (given _ (sym c.store_entries-values.ensures.result_value ∙ told))
+returns-in_err-store_entries c =
+    let refused = err_from_is_err_and c.from_residual.result c.from_residual.ensures.1 in
+    rw (refused.1, refused.2)
+    (turned-back (sheet_of c.args.s.now) _ (given _ (sym c.in_err-store_entries.ensures.result_value)))
 
-pub returns-in_default-bounds : goal.returns-in_default-bounds
-unfolding refusal_of
-returns-in_default-bounds c =
-    let store = c.store_entries-values in
-    let t = table-is c.requires store.result store.new.table c.in-Passed.is store.ensures.table_after in
-    let values = none-of c.in-Passed.is store.ensures.result_value in
-    let bounds =
-    bounds-are c.requires c.check_bounds-bounds.result store.new.table t values c.check_bounds-bounds.ensures in
-    let told = ap refusal_of c.in_default-bounds.is in
-    turned-back (sheet_of c.args.s.now) c.check_bounds-bounds.result c.without_figures-in_default-bounds.ensures told
-    (sym bounds ∙ told)
+pub returns-in_err-check_bounds : goal.returns-in_err-check_bounds
+unfolding refusal_of stored_by
+returns-in_err-check_bounds c =
+    let refused =
+    err_from_is_err_and c.from_residual-in_err-check_bounds.result c.from_residual-in_err-check_bounds.ensures.1 in
+    let stored = c.in_ok-store_entries.ensures in
+    let t = table-is c.requires c.store_entries.new.table stored.table_after in
+    let bounds = bounds-are c.requires _ t stored.result_value c.in_err-check_bounds.ensures in
+    rw (refused.1, refused.2) (turned-back (sheet_of c.args.s.now) _ (sym bounds))
 
-pub unpack-figures-requires : goal.unpack-figures-requires
-unpack-figures-requires c =
-    let store = c.store_entries-values in
-    let t = table-is c.requires store.result store.new.table c.in-Passed.is store.ensures.table_after in
-    let values = none-of c.in-Passed.is store.ensures.result_value in
-    let bounds =
-    bounds-are c.requires c.check_bounds-bounds.result store.new.table t values c.check_bounds-bounds.ensures in
-    ranged-in-table c.requires store.new.table t (none-of c.in-Passed-bounds.is bounds)
+pub unpack-requires : goal.unpack-requires
+unfolding refusal_of stored_by
+unpack-requires c =
+    let stored = c.in_ok-store_entries.ensures in
+    let t = table-is c.requires c.store_entries.new.table stored.table_after in
+    let bounds = bounds-are c.requires _ t stored.result_value c.in_ok-check_bounds.ensures in
+    ranged-in-table c.requires c.store_entries.new.table t (sym bounds)
 
 pub returns : goal.returns
-unfolding refusal_of
+unfolding refusal_of stored_by
 returns c =
-    let store = c.store_entries-values in
-    let t = table-is c.requires store.result store.new.table c.in-Passed.is store.ensures.table_after in
-    let values = none-of c.in-Passed.is store.ensures.result_value in
-    let bounds =
-    bounds-are c.requires c.check_bounds-bounds.result store.new.table t values c.check_bounds-bounds.ensures in
-    let unpacked = c.unpack-figures in
-    read_whole (sheet_of c.args.s.now) refl (none-of c.in-Passed-bounds.is bounds)
-    (figures-are c.requires store.new.table unpacked.result t unpacked.ensures.value)
-    (coefficients-are c.requires store.new.table c.args.coefficient.now unpacked.new.coefficient t
+    let stored = c.in_ok-store_entries.ensures in
+    let t = table-is c.requires c.store_entries.new.table stored.table_after in
+    let bounds = bounds-are c.requires _ t stored.result_value c.in_ok-check_bounds.ensures in
+    let unpacked = c.unpack in
+    read_whole (sheet_of c.args.s.now) (sym bounds)
+    (figures-are c.requires c.store_entries.new.table unpacked.result t unpacked.ensures.value)
+    (coefficients-are c.requires c.store_entries.new.table c.args.coefficient.now unpacked.new.coefficient t
     unpacked.ensures.coefficient_after)

@@ -1,11 +1,11 @@
 -- The figures are tested, then the buffer; and then the sheet is put there.
+use Rattle.std.specs.Prelude.{Ok, Err}
 use Rattle.std.proofs.Common.{◌≡◌, sym, ap, ◌∙◌, List, ℕ, ◌+◌, ◌*◌, ◌<◌, ◌≤◌, length, arith}
-use Rattle.std.proofs.Math.Option.{none}
+use Rattle.std.proofs.Math.Option.{none, some}
+use Rattle.std.proofs.lemmas.Result.{err_from_is_err_and}
 use Rattle.rules.specs.declared.Cause.TheVariants.{Buffer}
-use Rattle.rules.specs.declared.Output.{Output}
 use Rattle.rules.specs.declared.Refusal.{Refusal}
 use Rattle.rules.specs.declared.Sizes.{Sizes}
-use Rattle.rules.specs.declared.Verdict.{Verdict}
 use Rattle.rules.specs.Refusals.{numbered, number_of, refusal_of}
 use Rattle.rules.specs.Output.{Writes, short_buffer}
 use Rattle.rules_arrays.specs.Arrays.{Arrays, sheet_from, write_refusal, arrays_refusal}
@@ -19,15 +19,14 @@ use Rattle.sheet_write.specs.Ready.{Short, SheetReady}
 use Rattle.sheet_write.proofs.write_sheet.Goals as goal
 
 -- ---- the figures are refused
-refused : (z : Sizes) (A : Arrays) (d : List ℕ) (r : Refusal) → refusal_of (Verdict.Refused r) ≡ arrays_refusal z A
-    → Writes (sheet_from z A) (write_refusal z A (length d)) d d (Output.Refused r)
-unfolding refusal_of write_refusal
+refused : (z : Sizes) (A : Arrays) (d : List ℕ) (r : Refusal) → some (numbered r) ≡ arrays_refusal z A
+    → Writes (sheet_from z A) (write_refusal z A (length d)) d d (Err r)
+unfolding write_refusal
 refused z A d r h = writes-refused _ (given _ (sym h))
 
 -- ---- the figures are not refused
-module _ (z : Sizes) (A : Arrays) (d : List ℕ) (passed : refusal_of Verdict.Passed ≡ arrays_refusal z A) where
+module _ (z : Sizes) (A : Arrays) (d : List ℕ) (passed : none ≡ arrays_refusal z A) where
   accepted : arrays_refusal z A ≡ none
-  unfolding refusal_of
   accepted = sym passed
 
   short : Short A
@@ -46,11 +45,10 @@ module _ (z : Sizes) (A : Arrays) (d : List ℕ) (passed : refusal_of Verdict.Pa
     refusal_is = handed-on _ accepted
 
     -- the buffer is too short
-    lacking : length d < 12 + 6 * e
-        → Writes (sheet_from z A) (write_refusal z A (length d)) d d
-        (Output.Refused record { place = 12 + 6 * e; cause = Buffer })
+    lacking : {r : Refusal} → r ≡ record { place = 12 + 6 * e; cause = Buffer } → length d < 12 + 6 * e
+        → Writes (sheet_from z A) (write_refusal z A (length d)) d d (Err r)
     unfolding numbered number_of
-    lacking l = writes-refused _ (refusal_is ∙ too_short 8 (sheet_from z A) wanted l)
+    lacking is l = rw is (writes-refused _ (refusal_is ∙ too_short 8 (sheet_from z A) wanted l))
 
     -- it is long enough
     module _ (l : 12 + 6 * e ≤ length d) where
@@ -65,35 +63,45 @@ module _ (z : Sizes) (A : Arrays) (d : List ℕ) (passed : refusal_of Verdict.Pa
       }
 
       wrote : {d' : List ℕ} → d' ≡ written (sheet_from z A) d
-          → Writes (sheet_from z A) (write_refusal z A (length d)) d d' (Output.Wrote (12 + 6 * e))
+          → Writes (sheet_from z A) (write_refusal z A (length d)) d d' (Ok (12 + 6 * e))
       unfolding written
       wrote put = writes-all (refusal_is ∙ long-enough 8 (sheet_from z A) wanted l) (sym wanted) put
 
-pub returns-in-Refused : goal.returns-in-Refused
-returns-in-Refused c = refused c.args.sizes _ c.args.sheet.now c.in-Refused.refusal c.in-Refused.ensures
+pub returns-in_err-check_arrays : goal.returns-in_err-check_arrays
+unfolding refusal_of
+returns-in_err-check_arrays c =
+    let err = err_from_is_err_and c.from_residual.result c.from_residual.ensures.1 in
+    rw (err.1, err.2) (refused c.args.sizes _ c.args.sheet.now _ c.in_err-check_arrays.ensures)
 
 pub count_entries-e-requires : goal.count_entries-e-requires
-count_entries-e-requires c = short c.args.sizes _ c.args.sheet.now c.in-Passed.ensures
+unfolding refusal_of
+count_entries-e-requires c = short c.args.sizes _ c.args.sheet.now c.in_ok-check_arrays.ensures
 
 pub overflow_mul-wanted : goal.overflow_mul-wanted
+unfolding refusal_of
 overflow_mul-wanted c = record {
-  fits = omega (arith, few c.args.sizes _ c.args.sheet.now c.in-Passed.ensures _ c.count_entries-e.ensures);
+  fits = omega (arith, few c.args.sizes _ c.args.sheet.now c.in_ok-check_arrays.ensures _ c.count_entries-e.ensures);
 }
 
 pub overflow_add-wanted : goal.overflow_add-wanted
+unfolding refusal_of
 overflow_add-wanted c = record {
-  fits = omega (arith, few c.args.sizes _ c.args.sheet.now c.in-Passed.ensures _ c.count_entries-e.ensures);
+  fits = omega (arith, few c.args.sizes _ c.args.sheet.now c.in_ok-check_arrays.ensures _ c.count_entries-e.ensures);
 }
 
 pub returns-then-sheet-wanted : goal.returns-then-sheet-wanted
+unfolding refusal_of
 returns-then-sheet-wanted c =
-    lacking c.args.sizes _ c.args.sheet.now c.in-Passed.ensures _ c.count_entries-e.ensures c.if-sheet-wanted.true
+    lacking c.args.sizes _ c.args.sheet.now c.in_ok-check_arrays.ensures _ c.count_entries-e.ensures
+    c.at.ensures c.if-sheet-wanted.true
 
 pub put_sheet-requires : goal.put_sheet-requires
+unfolding refusal_of
 put_sheet-requires c =
-    sheet-ready c.args.sizes _ c.args.sheet.now c.in-Passed.ensures _ c.count_entries-e.ensures c.if-sheet-wanted.false
+    sheet-ready c.args.sizes _ c.args.sheet.now c.in_ok-check_arrays.ensures _ c.count_entries-e.ensures c.if-sheet-wanted.false
 
-pub returns-else-sheet-wanted : goal.returns-else-sheet-wanted
-returns-else-sheet-wanted c =
-    wrote c.args.sizes _ c.args.sheet.now c.in-Passed.ensures _ c.count_entries-e.ensures c.if-sheet-wanted.false
+pub returns : goal.returns
+unfolding refusal_of
+returns c =
+    wrote c.args.sizes _ c.args.sheet.now c.in_ok-check_arrays.ensures _ c.count_entries-e.ensures c.if-sheet-wanted.false
     c.put_sheet.ensures
