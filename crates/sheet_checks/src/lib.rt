@@ -23,13 +23,11 @@ pub fn check_keys(s: &[u8], header: Header) -> Result<(), Refusal>
     let keys = header.length;
     let e = header.entries;
     let mut floor: usize = 0;
-    let mut i: usize = 0;
-    while i < e {
+    for i in 0..e {
         let Some(key) = read_key(shape, floor, size_at(s, keys + 2 * i)) else {
             return Err(Cause::Key.at(i));
         };
         floor = key + 1;
-        i += 1;
     }
     Ok(())
 }
@@ -39,14 +37,12 @@ pub fn check_bounds(n: usize, table: &[i32; 646]) -> Result<(), Refusal>
     requires { FewMaterials n }
     ensures { refusal_of result ≡ crossed_refusal n table.now }
 {
-    let mut j: usize = 0;
-    while j < n {
+    for j in 0..n {
         let least = table[place_at(1, j)];
         let most = table[place_at(2, j)];
         if most < least {
             return Err(Cause::Bounds.at(j));
         }
-        j += 1;
     }
     Ok(())
 }

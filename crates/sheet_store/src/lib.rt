@@ -25,15 +25,13 @@ pub fn store_entries(s: &[u8], header: Header, table: &mut [i32; 646]) -> Result
     let shape = sizes.shape;
     let keys = header.length;
     let e = header.entries;
-    let mut i: usize = 0;
-    while i < e {
+    for i in 0..e {
         let key = size_at(s, keys + 2 * i);
         let Ok(value) = read_entry(shape, key, signed_32(s, keys + 2 * e + 4 * i)) else {
             return Err(Cause::Value.at(i));
         };
         let at = place_at(key / 64, key % 64);
         table[at] = value;
-        i += 1;
     }
     Ok(())
 }

@@ -22,7 +22,7 @@ test-is table j least most b l e f least-fits most-fits h =
     ∙ (simp (to_z-of_z w32 (at table most) most-fits, to_z-of_z w32 (at table least) least-fits) at h)
 
 pub loop-j-init : goal.loop-j-init
-loop-j-init c = (omega arith, first-start _)
+loop-j-init c = first-start _
 
 pub returns-then-most-least : goal.returns-then-most-least
 unfolding refusal_of numbered number_of crossed_refusal
@@ -33,7 +33,7 @@ returns-then-most-least c =
     test-is t j c.place_at.result c.place_at-in-loop-j.result true (omega (arith, c.requires.narrow))
     c.place_at.ensures c.place_at-in-loop-j.ensures (search rules) (search rules) c.if-most-least.true in
     ap (λ r. refusal_of (Err r)) c.at.ensures
-    ∙ sym (scan-found 7 (crossed (table_in t)) c.args.n (omega arith) c.loop-j.invariant.1 above)
+    ∙ sym (scan-found 7 (crossed (table_in t)) c.args.n (omega arith) c.loop-j.invariant above)
 
 pub loop-j-preserved : goal.loop-j-preserved
 loop-j-preserved c =
@@ -41,10 +41,10 @@ loop-j-preserved c =
     let below =
     test-is t c.loop-j.j c.place_at.result c.place_at-in-loop-j.result false (omega (arith, c.requires.narrow))
     c.place_at.ensures c.place_at-in-loop-j.ensures (search rules) (search rules) c.if-most-least.false in
-    (omega arith, scan-more 7 (crossed (table_in t)) c.loop-j.invariant.1 below)
+    scan-more 7 (crossed (table_in t)) c.loop-j.invariant below
 
 pub returns : goal.returns
 unfolding refusal_of crossed_refusal
 returns c =
     let all : c.loop-j.j ≡ c.args.n = omega arith in
-    sym (first-end _ all c.loop-j.invariant.1)
+    sym (first-end _ all c.loop-j.invariant)

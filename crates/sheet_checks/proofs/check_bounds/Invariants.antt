@@ -1,5 +1,5 @@
 -- No material below j has its least amount above its most.
-use Rattle.std.proofs.Common.{◌≡◌, ◌-◌, ◌≤◌}
+use Rattle.std.proofs.Common.{◌≡◌}
 use Rattle.std.proofs.Math.Option.{none}
 use Rattle.rules.specs.Refusals.{crossed}
 use Rattle.sheet_table.specs.Tabled.{table_in}
@@ -7,7 +7,4 @@ use Rattle.proof_laws.specs.FirstPlace.{scan}
 use Rattle.sheet_checks.proofs.check_bounds.Given as goal
 
 abbrev pub invariant-loop-j : goal.invariant-loop-j
-invariant-loop-j l = (l.j ≤ l.n) × (scan 7 (crossed (table_in l.table)) l.j ≡ none)
-
-abbrev pub decreases-loop-j : goal.decreases-loop-j
-decreases-loop-j l = l.n - l.j
+invariant-loop-j l = scan 7 (crossed (table_in l.table)) l.j ≡ none

@@ -29,7 +29,7 @@ module _ {s : List ℕ} {h : Header} (headed : Headed s h) (i : ℕ) where
 
 pub loop-i-init : goal.loop-i-init
 unfolding floor_of
-loop-i-init c = record { within = omega arith; keys = first-start _; floor_is = refl }
+loop-i-init c = record { keys = first-start _; floor_is = refl }
 
 pub returns-in_default : goal.returns-in_default
 unfolding refusal_of numbered number_of key_refusal key_answered
@@ -73,7 +73,6 @@ loop-i-preserved c =
     read.ensures in
     let says = good-says S i c.in-Some.key read.result c.in-Some.is answered in
     record {
-      within = omega arith;
       keys = scan-more 5 (bad_key S) at.keys says.0;
       floor_is = omega (arith, floor-next S i, says.1);
     }

@@ -1,5 +1,5 @@
 -- The keys of the entries below i are good, and `floor` is the least key that entry i may have.
-use Rattle.std.proofs.Common.{◌≡◌, ◌-◌, ◌≤◌}
+use Rattle.std.proofs.Common.{◌≡◌}
 use Rattle.std.proofs.Math.Option.{none}
 use Rattle.rules.specs.Sheet.{sheet_of}
 use Rattle.rules.specs.Refusals.{bad_key}
@@ -9,10 +9,6 @@ use Rattle.sheet_checks.proofs.check_keys.Given as goal
 
 abbrev pub invariant-loop-i : goal.invariant-loop-i
 invariant-loop-i l = record {
-  within : l.i ≤ l.e;
   keys : scan 5 (bad_key (sheet_of l.s)) l.i ≡ none;
   floor_is : l.floor ≡ floor_of (sheet_of l.s) l.i;
 }
-
-abbrev pub decreases-loop-i : goal.decreases-loop-i
-decreases-loop-i l = l.e - l.i

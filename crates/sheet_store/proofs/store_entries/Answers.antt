@@ -48,7 +48,7 @@ module _ {s : List ℕ} {h : Header} (keyed : Keyed s h) (i : ℕ) (inside : i <
 
 pub loop-i-init : goal.loop-i-init
 unfolding value_under
-loop-i-init c = record { within = omega arith; values = first-start _; stored = c.requires.empty }
+loop-i-init c = record { values = first-start _; stored = c.requires.empty }
 
 -- ---- what was read of entry i, where there is an entry i
 answered : {s : List ℕ} {h : Header} (keyed : Keyed s h) (i : ℕ) → i < h.entries → (key : ℕ) (value : ℤ)
@@ -125,7 +125,6 @@ loop-i-preserved c =
     let fits : SFits w32 value = search rules in
     let kept = to_z-of_z w32 value fits ∙ sym says.1 in
     record {
-      within = omega arith;
       values = scan-more 6 (bad_value S) c.loop-i.invariant.values says.0;
       stored =
           (λ j. set (c.loop-i.invariant.stored j) (place j) (kept j))

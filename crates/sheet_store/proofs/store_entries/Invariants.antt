@@ -1,5 +1,5 @@
 -- The values of the entries below i are good and stored.
-use Rattle.std.proofs.Common.{◌≡◌, ◌-◌, ◌≤◌}
+use Rattle.std.proofs.Common.{◌≡◌}
 use Rattle.std.proofs.Math.Option.{none}
 use Rattle.rules.specs.Sheet.{sheet_of, value_under}
 use Rattle.rules.specs.Refusals.{bad_value}
@@ -9,10 +9,6 @@ use Rattle.sheet_store.proofs.store_entries.Given as goal
 
 abbrev pub invariant-loop-i : goal.invariant-loop-i
 invariant-loop-i l = record {
-  within : l.i ≤ l.e;
   values : scan 6 (bad_value (sheet_of l.s)) l.i ≡ none;
   stored : l.table ≡ tabled (value_under (sheet_of l.s) l.i);
 }
-
-abbrev pub decreases-loop-i : goal.decreases-loop-i
-decreases-loop-i l = l.e - l.i
