@@ -1,5 +1,5 @@
 -- What stands at a row and a column of a sheet: a figure of a kind, or none.
-use Rattle.std.specs.Prelude.{ℕ, ◌≤◌, Option, Some, None}
+use Rattle.std.specs.Prelude.{ℕ, Option, Some, None}
 use Rattle.rules.specs.declared.Shape.{Shape}
 use Rattle.rules.specs.declared.Kind.{Kind}
 use Rattle.rules.specs.Ranges.{kind_at}
@@ -14,7 +14,3 @@ meaning_of None = refused 5
 -- the kind that the row decides, unless there is no figure
 unfoldable pub meaning_at : Shape → ℕ → ℕ → Read Kind
 meaning_at shape row column = unless 5 (no_figure_at shape row column) (gives (kind_at shape row column))
-
--- what the match on rows 3 to 18 asks
-pub record FewLimits (shape : Shape) : Type 0 where
-  pub few : shape.limits ≤ 16

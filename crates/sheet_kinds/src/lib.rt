@@ -3,7 +3,7 @@
 
 ghost use Rattle.std.specs.Prelude.{◌≡◌, ◌||◌, ◌+◌, ltb, leb};
 ghost use Rattle.rules.specs.Ranges.{kind_at};
-ghost use Rattle.sheet_kinds.specs.Meaning.{FewLimits, meaning_of, meaning_at};
+ghost use Rattle.sheet_kinds.specs.Meaning.{meaning_of, meaning_at};
 ghost use Rattle.proof_laws.specs.Read.{gives, unless};
 
 use rules::{Kind, Shape};
@@ -35,7 +35,6 @@ fn of_limit(shape: Shape, column: usize) -> Option<Kind>
 
 // What stands at a row and a column (T3.2).
 pub fn meaning_at(shape: Shape, row: usize, column: usize) -> Option<Kind>
-    requires { FewLimits shape }
     ensures { meaning_of result ≡ meaning_at shape row column }
 {
     let m = shape.limits;
@@ -43,13 +42,7 @@ pub fn meaning_at(shape: Shape, row: usize, column: usize) -> Option<Kind>
         0 => of_material(Kind::Cost, shape, column),
         1 => of_material(Kind::Least, shape, column),
         2 => of_material(Kind::Most, shape, column),
-        3..=18 => {
-            if row <= m + 2 {
-                of_limit(shape, column)
-            } else {
-                None
-            }
-        }
+        3.. if row - 3 < m => of_limit(shape, column),
         _ => None,
     }
 }

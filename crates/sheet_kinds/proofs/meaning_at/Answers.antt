@@ -17,12 +17,8 @@ pub returns-in-2 : goal.returns-in-2
 unfolding kind_at
 returns-in-2 c = c.of_material-in-2.ensures ∙ rw c.in-2.is (material-row _ 2 _ (omega arith))
 
-pub returns-then-row-m : goal.returns-then-row-m
-returns-then-row-m c = c.of_limit.ensures ∙ limit-row _ _ _ (omega arith) (omega arith)
-
-pub returns-else-row-m : goal.returns-else-row-m
-unfolding meaning_of
-returns-else-row-m c = no_row _ _ _ (omega arith)
+pub returns-in-3-to-max : goal.returns-in-3-to-max
+returns-in-3-to-max c = c.of_limit.ensures ∙ limit-row _ _ _ (omega arith) (omega arith)
 
 pub returns-in_default : goal.returns-in_default
 unfolding meaning_of
