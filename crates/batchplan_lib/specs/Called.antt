@@ -5,7 +5,7 @@ use Rattle.rules.specs.Margins.{Margins}
 use Rattle.batchplan_lib.specs.declared.Numbers.{Numbers}
 
 -- TASK.md, T10.3: a plan has the number 0, its low and its gap; a refusal has its number and its place; all else is 0
-unfoldable pub numbers_of : Outcome → Numbers
+abbrev pub numbers_of : Outcome → Numbers
 numbers_of (plan low gap) = record { number = 0; place = 0; low = low; gap = gap }
 numbers_of (refused r) = record { number = r.number; place = r.place; low = pos 0; gap = pos 0 }
 

@@ -9,7 +9,7 @@ use Rattle.batchplan_lib.specs.declared.Pair.{Pair}
 
 -- TASK.md, T10.6, T10.7: bytes that are written have the number 0 and their length; a refusal has its number and its
 -- place
-unfoldable pub pair_of : Writing → Pair
+abbrev pub pair_of : Writing → Pair
 pair_of (wrote n) = record { number = 0; beside = n }
 pair_of (refused r) = record { number = r.number; beside = r.place }
 

@@ -38,7 +38,7 @@ struct Numbers {
 impl From<Result<PlanFigures, Refusal>> for Numbers {
     ghost from_gives = { λ answer numbers. numbers ≡ numbers_of (outcome answer) };
 
-    #[tactic(auto, unfolding(crate::specs::Called::numbers_of, rules::specs::Answers::outcome, rules::specs::Refusals::numbered))]
+    #[tactic(auto, unfolding(rules::specs::Answers::outcome, rules::specs::Refusals::numbered))]
     fn from(answer: Result<PlanFigures, Refusal>) -> Numbers {
         match answer {
             Ok(plan) => Numbers {
@@ -69,7 +69,7 @@ struct Pair {
 impl From<Result<usize, Refusal>> for Pair {
     ghost from_gives = { λ output pair. pair ≡ pair_of (writing output) };
 
-    #[tactic(auto, unfolding(crate::specs::Wrote::pair_of, rules::specs::Output::writing, rules::specs::Refusals::numbered))]
+    #[tactic(auto, unfolding(rules::specs::Output::writing, rules::specs::Refusals::numbered))]
     fn from(output: Result<usize, Refusal>) -> Pair {
         match output {
             Ok(length) => Pair {

@@ -16,7 +16,8 @@ use Rattle.out_record.specs.RecordParts.{plan_in}
 use Rattle.out_record.specs.declared.Head.{Head}
 
 -- the answer of a plan p and of the refusal that was met, if any, with the buffer afterwards
-pub record Ends (p : Plan) (met : Option Numbered) (lent left : List ℕ) (result : Result PlanFigures Refusal) : Type 0 where
+pub record Ends (p : Plan) (met : Option Numbered) (lent left : List ℕ) (result : Result PlanFigures Refusal) : Type 0
+    where
   pub answered : outcome result ≡ outcome_of p met
   pub buffer : left ≡ buffer_of p lent (outcome_of p met)
 

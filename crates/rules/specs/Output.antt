@@ -30,7 +30,7 @@ unfoldable pub short_buffer : ℕ → List ℕ → ℕ → Option Numbered
 short_buffer number bytes room = refuse number (length bytes) (ltb room (length bytes))
 
 -- T13.5, T13.6, T14.6: writing bytes, unless a refusal is given, to a buffer that is `lent` before, `after` afterwards.
-pub record Writes (bytes : List ℕ) (refusal : Option Numbered) (lent after : List ℕ) (result : Result ℕ Refusal) : Type 0
-  where
-    pub answered : writing result ≡ writing_of bytes refusal
+pub record Writes (bytes : List ℕ) (refusal : Option Numbered) (lent after : List ℕ)
+    (result : Result ℕ Refusal) : Type 0 where
+  pub answered : writing result ≡ writing_of bytes refusal
     pub buffer : after ≡ lent_after bytes lent (writing result)

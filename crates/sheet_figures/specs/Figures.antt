@@ -57,10 +57,6 @@ abbrev pub problem_of : Figures → List ℤ → Problem
 problem_of F a =
     started_in F.materials F.limits F.numerator F.scale F.cost F.least F.most a F.rhs F.start
 
--- no figures: every size and every place is 0
-unfoldable pub no_figures : Figures
-no_figures = figures_of (problem_in 0 0 0 0 [] [] [] [] []) 0
-
 -- ---- what stands at each place
 -- figure j stands at place j
 array-here : (room n : ℕ) (f : ℕ → ℤ) → n ≤ room → (j : ℕ) → j < n → at (array room n f) j ≡ f j

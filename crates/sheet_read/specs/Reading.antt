@@ -38,7 +38,8 @@ pub same_figures : (f g : Figures) → figured f ≡ figured g → f ≡ g
 same_figures f g e = cc
 
 -- a sheet whose figures are answered is not refused
-pub figures_read : (S : Sheet) (f : Figures) (met : Option Numbered) → reading_of (Ok f) ≡ figures_unless met S → met ≡ none
+pub figures_read : (S : Sheet) (f : Figures) (met : Option Numbered) → reading_of (Ok f) ≡ figures_unless met S
+    → met ≡ none
 unfolding reading_of figures_unless
 figures_read S f none e = refl
 figures_read S f (some r) e = absurd (cc)

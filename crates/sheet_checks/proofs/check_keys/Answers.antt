@@ -16,7 +16,8 @@ module _ {s : List ℕ} {h : Header} (headed : Headed s h) (i : ℕ) where
   key-read : (key : ℕ) → key ≡ unsigned_at 2 s (h.length + 2 * i) → key ≡ (sheet_of s).key i
   key-read key k = k ∙ ap (unsigned_at 2 s) (omega (arith, keys-begin headed.header))
 
-  read-is : (floor key : ℕ) (read : Option ℕ) → floor ≡ floor_of (sheet_of s) i → key ≡ unsigned_at 2 s (h.length + 2 * i)
+  read-is : (floor key : ℕ) (read : Option ℕ) → floor ≡ floor_of (sheet_of s) i
+      → key ≡ unsigned_at 2 s (h.length + 2 * i)
       → key_answered read ≡ key_read h.sizes.shape floor key
       → key_answered read ≡ unless 5 (bad_key (sheet_of s) i) (gives ((sheet_of s).key i))
   unfolding key_read

@@ -13,7 +13,8 @@ returns-in_err-meaning_at c =
 
 pub returns-then-key-floor : goal.returns-then-key-floor
 unfolding key_answered meaning_of meaning_at
-returns-then-key-floor c = sym (low-key _ _ _ (gives-says 5 _ _ _ (sym c.in_ok-meaning_at.ensures)).0 c.if-key-floor.true)
+returns-then-key-floor c =
+    sym (low-key _ _ _ (gives-says 5 _ _ _ (sym c.in_ok-meaning_at.ensures)).0 c.if-key-floor.true)
 
 pub returns : goal.returns
 unfolding key_answered meaning_of meaning_at

@@ -1,5 +1,5 @@
 -- Each pass hands on where it refuses nothing, and the reading ends with the first that refuses.
-use Rattle.std.proofs.Common.{◌≡◌, ℕ, List, Option, Some, false, ltb, length, sym, ap, ◌∙◌, Err}
+use Rattle.std.proofs.Common.{◌≡◌, ℕ, List, Some, false, ltb, length, sym, ap, ◌∙◌}
 use Rattle.std.proofs.Math.Option.{some}
 use Rattle.std.proofs.lemmas.Result.{err_from_is_err_and}
 use Rattle.rules.specs.Sheet.{header_length, sheet_of}

@@ -80,7 +80,8 @@ returns-in_default-clause-result_value c =
     c.size_at-key.ensures.is (search rules) c.signed_32.ensures read.ensures in
     let bad = refused_says 6 _ (bad_value S i) (S.value i) (sym answer ∙ ap entry_answered c.in_default.is) in
     let inside : i < S.entries = omega (arith, entries-is c.requires.keyed.headed.header) in
-    ap (λ r. refusal_of (Err r)) c.at.ensures ∙ sym (scan-found 6 (bad_value S) S.entries inside c.loop-i.invariant.values bad)
+    ap (λ r. refusal_of (Err r)) c.at.ensures
+    ∙ sym (scan-found 6 (bad_value S) S.entries inside c.loop-i.invariant.values bad)
 
 pub returns-in_default-clause-table_after : goal.returns-in_default-clause-table_after
 unfolding stored_by

@@ -98,10 +98,12 @@ returns-then-sheet-wanted c =
 pub put_sheet-requires : goal.put_sheet-requires
 unfolding refusal_of
 put_sheet-requires c =
-    sheet-ready c.args.sizes _ c.args.sheet.now c.in_ok-check_arrays.ensures _ c.count_entries-e.ensures c.if-sheet-wanted.false
+    sheet-ready c.args.sizes _ c.args.sheet.now c.in_ok-check_arrays.ensures _ c.count_entries-e.ensures
+    c.if-sheet-wanted.false
 
 pub returns : goal.returns
 unfolding refusal_of
 returns c =
-    wrote c.args.sizes _ c.args.sheet.now c.in_ok-check_arrays.ensures _ c.count_entries-e.ensures c.if-sheet-wanted.false
+    wrote c.args.sizes _ c.args.sheet.now c.in_ok-check_arrays.ensures _ c.count_entries-e.ensures
+    c.if-sheet-wanted.false
     c.put_sheet.ensures
