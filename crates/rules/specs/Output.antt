@@ -33,4 +33,4 @@ short_buffer number bytes room = refuse number (length bytes) (ltb room (length 
 pub record Writes (bytes : List ℕ) (refusal : Option Numbered) (lent after : List ℕ)
     (result : Result ℕ Refusal) : Type 0 where
   pub answered : writing result ≡ writing_of bytes refusal
-    pub buffer : after ≡ lent_after bytes lent (writing result)
+  pub buffer : after ≡ lent_after bytes lent (writing result)
