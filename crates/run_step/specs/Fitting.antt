@@ -90,7 +90,15 @@ module _ (f : Figures) (a : List ℤ) {k : ℕ} (accepted : Accepted (problem_of
   }
 
   pub sums-fit : TotalsFit w32 32 32 f.materials (at (state_after P t).sums) (amounts P t)
-  sums-fit = record { few = accepted.materials-few; enough = accepted.materials-few; one = λ j l. bnd-sfits tt (large.new-sum j l).magnitude }
+  sums-fit = record {
+    few = accepted.materials-few;
+    enough = accepted.materials-few;
+    one = λ j l. bnd-sfits tt (large.new-sum j l).magnitude;
+  }
 
   pub totals-fit : TotalsFit w64 16 16 f.limits (at (state_after P t).residual_totals) (residuals P t)
-  totals-fit = record { few = accepted.limits-few; enough = accepted.limits-few; one = λ i l. (large.new-total i l).fits }
+  totals-fit = record {
+    few = accepted.limits-few;
+    enough = accepted.limits-few;
+    one = λ i l. (large.new-total i l).fits;
+  }

@@ -34,7 +34,7 @@ pub struct Stop {
     pub state: State,
 }
 
-// What a look at a state's multipliers works out.
+// for `run_close`, which has it from `look`: what a look at a state's multipliers works out.
 #[derive(Clone, Copy)]
 pub struct Look {
     // x_j at place j

@@ -28,8 +28,8 @@ module _ (P : Problem) (count : ℕ) {low r : ℤ} {s : ℕ → ℤ} (fits : Gap
   difference-is : difference ≡ gap_of P count low s
   unfolding gap_of
   difference-is =
-      simp
-      (scaled-is, to_z-of_z fits.scaled, small_is w64 {N = 4096} tt fits.few, to_z-of_z low_fits, to_z-of_z fits.counted)
+      let count-is = small_is w64 {N = 4096} tt fits.few in
+      simp (scaled-is, to_z-of_z fits.scaled, count-is, to_z-of_z low_fits, to_z-of_z fits.counted)
 
   difference-fits : SFits w64 difference
   difference-fits = rw difference-is fits.whole

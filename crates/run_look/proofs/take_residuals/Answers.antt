@@ -1,4 +1,5 @@
-use Rattle.std.proofs.Common.{◌≡◌, ℕ, ◌+◌, ◌-◌, ◌*◌, ◌<◌, ◌≤◌, ℤ, ◌+ℤ◌, ◌-ℤ◌, ◌*ℤ◌, pos, List, length, take, drop, sym, ap, subst, ◌∙◌, rules, arith}
+use Rattle.std.proofs.Common.{◌≡◌, ℕ, ◌+◌, ◌-◌, ◌*◌, ◌<◌, ◌≤◌, ℤ, ◌+ℤ◌, ◌-ℤ◌, ◌*ℤ◌, pos, List, length}
+use Rattle.std.proofs.Common.{take, drop, sym, ap, subst, ◌∙◌, rules, arith}
 use Rattle.std.proofs.Common.{SFits, to_z, of_z, to_z-of_z}
 use Rattle.std.proofs.Math.IntN.{+ℤ_idl}
 use Rattle.std.proofs.lemmas.List.{map-id, get_or-drop, length-drop, take_all}
@@ -33,16 +34,14 @@ module _ (a : List ℤ) (long : length a ≡ 512) (i : ℕ) where
   abbrev row : List ℤ
   row = take (512 - 32 * i) (drop (32 * i) a)
 
+  row-is : row ≡ drop (32 * i) a
+  row-is = take_all (512 - 32 * i) (drop (32 * i) a) (omega (arith, length-drop (32 * i) a))
+
   row-length : length row ≡ 512 - 32 * i
-  row-length = ap length (take_all (512 - 32 * i) (drop (32 * i) a) (omega (arith, length-drop (32 * i) a))) ∙ length-drop (32 * i) a ∙ ap (λ (n : ℕ). n - 32 * i) long
+  row-length = ap length row-is ∙ length-drop (32 * i) a ∙ ap (λ (n : ℕ). n - 32 * i) long
 
   row-reads : at row ≡ (λ j. at a (32 * i + j))
-  row-reads = λ k j. reads j k
-    where
-      reads : (j : ℕ) → at row j ≡ at a (32 * i + j)
-      reads j =
-          ap (λ (xs : List ℤ). at xs j) (take_all (512 - 32 * i) (drop (32 * i) a) (omega (arith, length-drop (32 * i) a)))
-          ∙ get_or-drop (32 * i) a j (pos 0)
+  row-reads = λ k j. (ap (λ (xs : List ℤ). at xs j) row-is ∙ get_or-drop (32 * i) a j (pos 0)) k
 
 pub loop-i-init : goal.loop-i-init
 loop-i-init c = c.requires.empty ∙ sym (fill_start 16 _)

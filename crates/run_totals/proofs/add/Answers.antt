@@ -27,8 +27,8 @@ plus-requires g c =
     let in-more : c.loop-i.i < length (map t.part_value c.args.more.now) =
     rw length-map (omega (arith, c.requires.enough)) in
     let sum-is =
-    summed t.value t.part_value c.args.totals.now c.loop-i.totals c.args.more.now c.loop-i.invariant in-totals in-more c.index-totals-i.is
-    c.index-more-i.is (g.met.T.Total.widens _ _ c.from.ensures) in
+    summed t.value t.part_value c.args.totals.now c.loop-i.totals c.args.more.now c.loop-i.invariant in-totals in-more
+    c.index-totals-i.is c.index-more-i.is (g.met.T.Total.widens _ _ c.from.ensures) in
     rw sum-is (c.requires.one c.loop-i.i c.loop-i-test.true)
 
 pub loop-i-preserved : goal.loop-i-preserved
@@ -38,6 +38,6 @@ loop-i-preserved g c =
     let in-more : c.loop-i.i < length (map t.part_value c.args.more.now) =
     rw length-map (omega (arith, c.requires.enough)) in
     let sum-is =
-    summed t.value t.part_value c.args.totals.now c.loop-i.totals c.args.more.now c.loop-i.invariant in-totals in-more c.index-totals-i.is
-    c.index-more-i.is (g.met.T.Total.widens _ _ c.from.ensures) in
+    summed t.value t.part_value c.args.totals.now c.loop-i.totals c.args.more.now c.loop-i.invariant in-totals in-more
+    c.index-totals-i.is c.index-more-i.is (g.met.T.Total.widens _ _ c.from.ensures) in
     rw map-set (changed-next c.loop-i.invariant (c.plus.ensures ∙ sum-is))
