@@ -2,7 +2,9 @@
 // and the gap.
 #![tactic(auto)]
 
-ghost use Rattle.std.specs.Prelude.{◌≡◌, pos, ◌*ℤ◌};
+ghost use Rattle.std.specs.Prelude.{◌≡◌, pos, ◌*ℤ◌, ◌-ℤ◌};
+ghost use Rattle.std.specs.Int.{w64};
+ghost use Rattle.std.proofs.Common.{SFits};
 ghost use Rattle.rules.specs.Notation.{at};
 ghost use Rattle.rules.specs.Problem.{cost_of};
 ghost use Rattle.rules.specs.Step.{greatest_cost, cheapest_cost};
@@ -51,11 +53,20 @@ pub fn cheapest_value(f: &Figures) -> i64
     value_at_ends(f, 1)
 }
 
-// The gap of all steps, a low and sums (T5.4). It may be negative.
+// A difference. It may be negative. It is a function of its own, since the check proves such a one by itself: a gap that
+// is clipped fails at a fact, and not at the text of the proof of `gap`.
+fn difference(from: i64, less: i64) -> i64
+    requires { SFits w64 (from -ℤ less) }
+    ensures { result ≡ from -ℤ less }
+{
+    from - less
+}
+
+// The gap of all steps, a low and sums (T5.4).
 pub fn gap(f: &Figures, sums: &[i32; 32], low: i64) -> i64
     requires { GapFits (materials_of f.now) f.now.steps low (at sums.now) }
     ensures { result ≡ gap_of (materials_of f.now) f.now.steps low (at sums.now) }
 {
     let sum = dot_column_64(f.materials, 0, sums, &f.cost, 0, 1);
-    (f.scale as i64) * sum - (f.steps as i64) * low
+    difference((f.scale as i64) * sum, (f.steps as i64) * low)
 }

@@ -34,6 +34,15 @@ pub struct Stop {
     pub state: State,
 }
 
+// What a stop is refused with, for `?`.
+impl From<Stop> for Refusal {
+    ghost from_gives = { λ stop refusal. refusal ≡ stop.refusal };
+
+    fn from(stop: Stop) -> Refusal {
+        stop.refusal
+    }
+}
+
 // for `run_close`, which has it from `look`: what a look at a state's multipliers works out.
 #[derive(Clone, Copy)]
 pub struct Look {
@@ -51,7 +60,7 @@ impl State {
         ensures { result ≡ record { refusal = record { place = t; cause = cause }; state = self } }
     {
         Stop {
-            refusal: Refusal { place: t, cause },
+            refusal: cause.at(t),
             state: self,
         }
     }

@@ -34,14 +34,14 @@ module _ (P : Problem) (count : ℕ) {low r : ℤ} {s : ℕ → ℤ} (fits : Gap
   difference-fits : SFits w64 difference
   difference-fits = rw difference-is fits.whole
 
-pub overflow_mul-result : goal.overflow_mul-result
-overflow_mul-result c =
+pub overflow_mul-f : goal.overflow_mul-f
+overflow_mul-f c =
     let r-fits : SFits w64 c.dot_column_64-sum.result = search rules in
     let r-is = cost-of-sums c.args.f.now c.args.sums.now c.dot_column_64-sum.ensures in
     scaled-fits (materials_of c.args.f.now) c.args.f.now.steps c.requires c.ranges.low r-fits r-is
 
-pub overflow_sub-result : goal.overflow_sub-result
-overflow_sub-result c =
+pub difference-requires : goal.difference-requires
+difference-requires c =
     let r-fits : SFits w64 c.dot_column_64-sum.result = search rules in
     let r-is = cost-of-sums c.args.f.now c.args.sums.now c.dot_column_64-sum.ensures in
     difference-fits (materials_of c.args.f.now) c.args.f.now.steps c.requires c.ranges.low r-fits r-is
@@ -50,6 +50,7 @@ pub returns : goal.returns
 returns c =
     let r-fits : SFits w64 c.dot_column_64-sum.result = search rules in
     let r-is = cost-of-sums c.args.f.now c.args.sums.now c.dot_column_64-sum.ensures in
-    let P : Problem = materials_of c.args.f.now in
-    let fits = difference-fits P c.args.f.now.steps c.requires c.ranges.low r-fits r-is in
-    to_z-of_z fits ∙ difference-is P c.args.f.now.steps c.requires c.ranges.low r-fits r-is
+    let fits : SFits w64 c.difference.result = search rules in
+    to_z-of_z fits
+    ∙ c.difference.ensures
+    ∙ difference-is (materials_of c.args.f.now) c.args.f.now.steps c.requires c.ranges.low r-fits r-is
