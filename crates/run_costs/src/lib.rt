@@ -53,8 +53,8 @@ pub fn cheapest_value(f: &Figures) -> i64
     value_at_ends(f, 1)
 }
 
-// A difference. It may be negative. It is a function of its own, since the check proves such a one by itself: a gap that
-// is clipped fails at a fact, and not at the text of the proof of `gap`.
+// A difference. It may be negative. It is a function of its own, since the check proves such a one by itself: a gap
+// that is clipped fails at a fact, and not at the text of the proof of `gap`.
 fn difference(from: i64, less: i64) -> i64
     requires { SFits w64 (from -ℤ less) }
     ensures { result ≡ from -ℤ less }
