@@ -1,7 +1,7 @@
 -- How planning ends: with a refusal and the buffer as lent, or with a plan and its record.
 use Rattle.std.specs.Prelude.{Result, Ok, Err}
 use mathlib.Core.Path.{◌≡◌, sym, subst, transport, ◌∙◌}
-use mathlib.Core.List.{List, ◌++◌}
+use mathlib.Core.List.{List, [], ◌++◌}
 use mathlib.Core.Option.{Option, none, some}
 use Prim.Native.Nat.{ℕ, ◌≤◌}
 use lib.IntN.{ℤ}
@@ -23,7 +23,7 @@ use Rattle.proof_margins.proofs.Theorem.{margins}
 use Rattle.sheet_figures.specs.declared.Figures.{Figures}
 use Rattle.sheet_figures.specs.Padded.{tabulate-at}
 use Rattle.sheet_figures.specs.Figures.{problem_of}
-use Rattle.run_costs.specs.Costs.{costs_only, GapFits}
+use Rattle.run_costs.specs.Costs.{GapFits}
 use Rattle.run_costs.specs.OfRun.{gap-fits}
 use Rattle.run_step.specs.declared.State.{State}
 use Rattle.run_step.specs.States.{state_in, closed_in}
@@ -105,7 +105,7 @@ module _ (f : Figures) (a : List ℤ) {w : State} (finished : Finished f a f.ste
   write-ready room = record {
     gap =
         transport
-        (λ k. GapFits (costs_only f.materials f.scale f.cost) f.steps (sym low-is k) (sym sums-are k))
+        (λ k. GapFits (problem_of f []) f.steps (sym low-is k) (sym sums-are k))
         (gap-fits f a finished.accepted f.steps finished.few finished.going);
     few = finished.accepted.limits-few;
     room = room;

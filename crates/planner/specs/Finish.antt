@@ -1,5 +1,5 @@
 -- What the parts of planning ask and give.
-use Rattle.std.specs.Prelude.{◌≡◌, List, ℕ, ◌≤◌, ℤ, length, Result}
+use Rattle.std.specs.Prelude.{◌≡◌, List, [], ℕ, ◌≤◌, ℤ, length, Result}
 use Rattle.std.proofs.Math.Option.{Option}
 use Rattle.rules.specs.declared.Refusal.{Refusal}
 use Rattle.rules.specs.declared.PlanFigures.{PlanFigures}
@@ -9,9 +9,10 @@ use Rattle.rules.specs.Record.{record_length}
 use Rattle.rules.specs.Refusals.{Numbered}
 use Rattle.rules.specs.Answers.{outcome, outcome_of, buffer_of}
 use Rattle.sheet_figures.specs.declared.Figures.{Figures}
+use Rattle.sheet_figures.specs.Figures.{problem_of}
 use Rattle.run_step.specs.declared.State.{State}
 use Rattle.run_step.specs.Reached.{FiguresReady}
-use Rattle.run_costs.specs.Costs.{costs_only, GapFits}
+use Rattle.run_costs.specs.Costs.{GapFits}
 use Rattle.out_record.specs.RecordParts.{plan_in}
 use Rattle.out_record.specs.declared.Head.{Head}
 
@@ -29,13 +30,13 @@ pub record RunReady (f : Figures) (a : List ℤ) (lent : List ℕ) : Type 0 wher
 -- the plan of a run that ended with the state w
 unfoldable pub plan_with : Figures → State → Plan
 plan_with f w =
-    let gap = gap_of (costs_only f.materials f.scale f.cost) f.steps w.low (at w.sums) in
+    let gap = gap_of (problem_of f []) f.steps w.low (at w.sums) in
     let head : Head =
     record { materials = f.materials; limits = f.limits; steps = f.steps; low = w.low; gap = gap } in
     plan_in head w.sums w.multipliers w.totals
 
 -- its gap fits, and the buffer can take the record
 pub record WriteReady (f : Figures) (w : State) (lent : List ℕ) : Type 0 where
-  pub gap : GapFits (costs_only f.materials f.scale f.cost) f.steps w.low (at w.sums)
+  pub gap : GapFits (problem_of f []) f.steps w.low (at w.sums)
   pub few : f.limits ≤ 16
   pub room : record_length f.materials f.limits ≤ length lent

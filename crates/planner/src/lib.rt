@@ -26,7 +26,7 @@ fn write_plan(f: Figures, state: State, record: &mut [u8]) -> Result<PlanFigures
 {
     let low = state.low;
     let sums = state.sums;
-    let gap = gap(f.materials, f.scale, &f.cost, &sums, f.steps, low);
+    let gap = gap(&f, &sums, low);
     let head = Head {
         materials: f.materials,
         limits: f.limits,
@@ -47,9 +47,8 @@ fn plan_run(f: Figures, coefficient: &[i16; 512], record: &mut [u8]) -> Result<P
         (run_refusal (problem_of f coefficient.now) f.steps)
         «record».old «record».new result }
 {
-    let ran = run(f, coefficient);
-    ran.stop?;
-    write_plan(f, ran.state, record)
+    let state = run(&f, coefficient)?;
+    write_plan(f, state, record)
 }
 
 // The plan of a sheet's figures, or refusals 8 to 10.

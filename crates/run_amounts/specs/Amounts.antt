@@ -1,14 +1,9 @@
 -- What the amounts at multipliers M ask: there is room, and every term, part of a sum and result fits its width.
-use Rattle.std.specs.Prelude.{◌≡◌, List, [], ℕ, ◌≤◌, ◌<◌, ℤ, pos, ◌*ℤ◌, replicate}
+use Rattle.std.specs.Prelude.{◌≡◌, List, ℕ, ◌≤◌, ◌<◌, ℤ, pos, ◌*ℤ◌, replicate}
 use Rattle.std.specs.Int.{w64}
 use Rattle.std.proofs.Common.{SFits}
 use Rattle.rules.specs.Problem.{Problem}
-use Rattle.sheet_figures.specs.Figures.{problem_in}
 use Rattle.run_sums.specs.SumsFit.{SumFits}
-
--- the problem that has all figures but b
-abbrev pub without_rhs : (n m D : ℕ) → (c l u a : List ℤ) → Problem
-without_rhs n m D c l u a = problem_in n m 0 D c l u a []
 
 -- the reduced cost of material j, at a cost c and a column a of coefficients
 pub record ReducedCostFits (m D : ℕ) (c : ℤ) (a M : ℕ → ℤ) (j : ℕ) : Type 0 where

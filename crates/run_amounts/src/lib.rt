@@ -4,55 +4,36 @@
 ghost use Rattle.std.specs.Prelude.{◌≡◌};
 ghost use Rattle.rules.specs.Notation.{tabulate, at};
 ghost use Rattle.rules.specs.Step.{amount};
+ghost use Rattle.sheet_figures.specs.Figures.{problem_of};
 ghost use Rattle.sheet_figures.specs.Padded.{padded};
-ghost use Rattle.run_amounts.specs.Amounts.{without_rhs, AmountFits, AmountsFit};
+ghost use Rattle.run_amounts.specs.Amounts.{AmountFits, AmountsFit};
 
 use run_ends::end_by;
 use run_sums::dot_column_64;
+use sheet_figures::Figures;
 
-// The amount of material j. How many materials there are plays no part in it: the contract says 0.
-fn amount_at<'a>(
-    j: usize,
-    m: usize,
-    scale: usize,
-    cost: &'a [i16; 32],
-    least: &'a [i16; 32],
-    most: &'a [i16; 32],
-    coefficient: &'a [i16; 512],
-    multipliers: &'a [i32; 16],
-) -> i16
-    requires { AmountFits (without_rhs 0 m scale cost.now least.now most.now coefficient.now)
-        (at multipliers.now) j }
-    ensures { result ≡ amount
-        (without_rhs 0 m scale cost.now least.now most.now coefficient.now)
-        (at multipliers.now) j }
+// The amount of material j.
+fn amount_at(f: &Figures, coefficient: &[i16; 512], multipliers: &[i32; 16], j: usize) -> i16
+    requires { AmountFits (problem_of f.now coefficient.now) (at multipliers.now) j }
+    ensures { result ≡ amount (problem_of f.now coefficient.now) (at multipliers.now) j }
 {
-    let scaled = (scale as i64) * (cost[j] as i64);
-    let reduced = dot_column_64(m, scaled, multipliers, coefficient, j, 32);
-    end_by(reduced, least[j], most[j])
+    let scaled = (f.scale as i64) * i64::from(f.cost[j]);
+    let reduced = dot_column_64(f.limits, scaled, multipliers, coefficient, j, 32);
+    end_by(reduced, f.least[j], f.most[j])
 }
 
 // The amounts of all materials, into an array of zeros. Places from n on keep them.
-pub fn choose_amounts<'a>(
-    n: usize,
-    m: usize,
-    scale: usize,
-    cost: &'a [i16; 32],
-    least: &'a [i16; 32],
-    most: &'a [i16; 32],
-    coefficient: &'a [i16; 512],
-    multipliers: &'a [i32; 16],
-    amounts: &'a mut [i16; 32],
+pub fn choose_amounts(
+    f: &Figures,
+    coefficient: &[i16; 512],
+    multipliers: &[i32; 16],
+    amounts: &mut [i16; 32],
 )
-    requires { AmountsFit (without_rhs n m scale cost.now least.now most.now coefficient.now)
-        (at multipliers.now) amounts.old }
-    ensures { amounts.new ≡ padded 32 (tabulate n (amount
-        (without_rhs n m scale cost.now least.now most.now coefficient.now)
-        (at multipliers.now))) }
+    requires { AmountsFit (problem_of f.now coefficient.now) (at multipliers.now) amounts.old }
+    ensures { amounts.new ≡ padded 32 (tabulate f.now.materials
+        (amount (problem_of f.now coefficient.now) (at multipliers.now))) }
 {
-    let mut j: usize = 0;
-    while j < n {
-        amounts[j] = amount_at(j, m, scale, cost, least, most, coefficient, multipliers);
-        j += 1;
+    for j in 0..f.materials {
+        amounts[j] = amount_at(f, coefficient, multipliers, j);
     }
 }

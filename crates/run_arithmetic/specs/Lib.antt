@@ -1,3 +1,3 @@
--- What the one-line functions ask and give.
+-- What adding a product asks.
 --   Products   a product and its sum fit a width
 pub mod Products

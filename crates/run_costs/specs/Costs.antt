@@ -1,17 +1,12 @@
--- The problem that has the costs which a function is lent and no other figures; and what the functions ask.
-use Rattle.std.specs.Prelude.{List, [], ℕ, ◌≤◌, ℤ, pos, ◌*ℤ◌}
+-- What the functions ask that work out costs: there is room, and every term, part of a sum and result fits its width.
+use Rattle.std.specs.Prelude.{ℕ, ◌≤◌, ℤ, pos, ◌*ℤ◌}
 use Rattle.std.specs.Int.{w32, w64}
 use Rattle.std.proofs.Common.{SFits}
 use Rattle.proof_integer.specs.Range.{Bnd}
 use Rattle.rules.specs.Problem.{Problem, cost_of}
 use Rattle.rules.specs.Run.{gap_of}
-use Rattle.sheet_figures.specs.Figures.{problem_in}
 use Rattle.run_ends.specs.SignedEnds.{signed_end}
 use Rattle.run_sums.specs.SumsFit.{SumFits}
-
--- the costs
-abbrev pub costs_only : (n D : ℕ) → List ℤ → Problem
-costs_only n D c = problem_in n 0 0 D c [] [] [] []
 
 -- the cost of amounts x, and D times it
 pub record CostFits (P : Problem) (x : ℕ → ℤ) : Type 0 where

@@ -16,8 +16,8 @@ use Rattle.proof_magnitudes.specs.Magnitudes.{CostMagnitudes, amounts-bnd, cost-
 use Rattle.proof_magnitudes.proofs.SheetMagnitudes.{plan-magnitudes}
 use Rattle.sheet_figures.specs.declared.Figures.{Figures}
 use Rattle.sheet_figures.specs.Figures.{problem_of}
-use Rattle.run_ends.specs.SignedEnds.{materials_only}
-use Rattle.run_costs.specs.Costs.{costs_only, CostFits, GapFits}
+use Rattle.run_ends.specs.SignedEnds.{materials_of}
+use Rattle.run_costs.specs.Costs.{CostFits, GapFits}
 
 -- the cost of amounts of at most 1,000
 pub cost-fits : {P : Problem} {k : ℕ} → Accepted P k → (x : ℕ → ℤ) → CostMagnitudes P x 1000 → CostFits P x
@@ -35,22 +35,19 @@ module _ (f : Figures) (a : List ℤ) {k : ℕ} (accepted : Accepted (problem_of
   abbrev P : Problem
   P = problem_of f a
 
-  -- the costs, and with the bounds, as the functions are lent them
+  -- as the functions see it, to which the coefficients are not lent
   abbrev costs : Problem
-  costs = costs_only f.materials f.scale f.cost
-
-  abbrev bounded : Problem
-  bounded = materials_only f.materials f.scale f.cost f.least f.most
+  costs = materials_of f
 
   -- ---- the greatest and the cheapest cost
-  pub greatest-fits : CostFits bounded (greatest_end P)
+  pub greatest-fits : CostFits costs (greatest_end P)
   unfolding cost_of
   greatest-fits =
       let amounts = amounts-bnd accepted (greatest-minimal P) in
       let fits = cost-fits accepted _ (cost-magnitudes accepted _ (lit≤ tt) amounts) in
       record { narrow = fits.narrow; scale = fits.scale; sum = fits.sum; scaled = fits.scaled }
 
-  pub cheapest-fits : CostFits bounded (cheapest_end P)
+  pub cheapest-fits : CostFits costs (cheapest_end P)
   unfolding cost_of
   cheapest-fits =
       let amounts = amounts-bnd accepted (cheapest-minimal P) in

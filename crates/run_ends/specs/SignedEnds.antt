@@ -4,12 +4,13 @@ use Rattle.std.specs.Prelude.{◌≡◌, ℕ, ◌≤◌, ℤ, pos, ◌*ℤ◌}
 use mathlib.Core.List.{List, [], replicate}
 use Rattle.proof_integer.specs.Range.{Bnd}
 use Rattle.rules.specs.Problem.{Problem}
-use Rattle.sheet_figures.specs.Figures.{problem_in}
+use Rattle.sheet_figures.specs.declared.Figures.{Figures}
+use Rattle.sheet_figures.specs.Figures.{problem_of}
 use Rattle.run_ends.specs.Ends.{end_by}
 
--- the materials: costs and bounds
-abbrev pub materials_only : (n D : ℕ) → (c l u : List ℤ) → Problem
-materials_only n D c l u = problem_in n 0 0 D c l u [] []
+-- the problem of the figures, where no coefficient plays a part
+abbrev pub materials_of : Figures → Problem
+materials_of f = problem_of f []
 
 -- the end of the bounds of material j that its cost times a sign chooses: with 1 the cheapest, with −1 the greatest
 abbrev pub signed_end : ℤ → Problem → ℕ → ℤ

@@ -1,5 +1,5 @@
 -- What a look at multipliers asks and gives.
---   Given      the problem of the limits' figures, and a look in arrays
+--   Given      a look in arrays
 --   LookFits   every term, part of a sum and result fits its width
 pub mod Given
 pub mod LookFits

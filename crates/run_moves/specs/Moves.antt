@@ -11,12 +11,13 @@ use Rattle.rules.specs.Notation.{any_below, tabulate, at}
 use Rattle.rules.specs.Problem.{Problem}
 use Rattle.rules.specs.Step.{moved, diverged}
 use Rattle.proof_laws.specs.Below.{any_found}
-use Rattle.sheet_figures.specs.Figures.{problem_in}
+use Rattle.sheet_figures.specs.declared.Figures.{Figures}
+use Rattle.sheet_figures.specs.Figures.{problem_of}
 use Rattle.run_totals.specs.Changed.{Changed}
 
--- the limits, of which the move takes only how many they are, and the step numerator
-abbrev pub limits_moved : (m p : ℕ) → Problem
-limits_moved m p = problem_in 0 m p 0 [] [] [] [] []
+-- the problem of the figures, where no coefficient plays a part
+abbrev pub limits_of : Figures → Problem
+limits_of f = problem_of f []
 
 -- the move asks that p times the residuals g fit, and the multipliers M before they are cut at 0
 pub record MoveFits (P : Problem) (M g : ℕ → ℤ) : Type 0 where

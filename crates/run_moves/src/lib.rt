@@ -2,32 +2,25 @@
 #![tactic(auto)]
 
 ghost use Rattle.rules.specs.Notation.{at};
-ghost use Rattle.run_moves.specs.Moves.{limits_moved, MoveFits, Moved};
+ghost use Rattle.run_moves.specs.Moves.{limits_of, MoveFits, Moved};
 
-use run_arithmetic::{larger, plus_64};
+use sheet_figures::Figures;
 
 // The move of the multipliers in place, each from its old one. It ends before the first that diverged, and answers
 // whether there is one.
-pub fn move_multipliers<'a>(
-    m: usize,
-    numerator: usize,
-    multipliers: &'a mut [i32; 16],
-    residuals: &'a [i32; 16],
-) -> bool
-    requires { MoveFits (limits_moved m numerator) (at multipliers.old) (at residuals.now) }
-    ensures { Moved (limits_moved m numerator) (at residuals.now)
+pub fn move_multipliers(f: &Figures, multipliers: &mut [i32; 16], residuals: &[i32; 16]) -> bool
+    requires { MoveFits (limits_of f.now) (at multipliers.old) (at residuals.now) }
+    ensures { Moved (limits_of f.now) (at residuals.now)
         multipliers.old multipliers.new result }
 {
-    let p = numerator as i64;
-    let mut i: usize = 0;
-    while i < m {
-        let old = multipliers[i] as i64;
-        let new = larger(0, plus_64(old, p * (residuals[i] as i64)));
-        if 1073741824 < new {
+    let p = f.numerator as i64;
+    for i in 0..f.limits {
+        let uncut = i64::from(multipliers[i]) + p * i64::from(residuals[i]);
+        let moved = uncut.max(0);
+        if 1_073_741_824 < moved {
             return true;
         }
-        multipliers[i] = new as i32;
-        i += 1;
+        multipliers[i] = moved as i32;
     }
     false
 }

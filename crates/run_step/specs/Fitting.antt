@@ -7,27 +7,19 @@ use Rattle.proof_integer.specs.Range.{bnd-sfits}
 use Rattle.proof_integer.specs.Sum.{sum_to-cong}
 use Rattle.rules.specs.Notation.{sum_to, at}
 use Rattle.rules.specs.Problem.{Problem, cost_of, load_of}
-use Rattle.rules.specs.Step.{reduced_cost, amount, residual, dual_value, look_at}
+use Rattle.rules.specs.Step.{residual}
 use Rattle.rules.specs.Run.{state_after, look_after}
 use Rattle.proof_magnitudes.specs.Accepted.{Accepted}
 use Rattle.proof_magnitudes.specs.Steps.{entering, amounts, residuals, residuals-are}
 use Rattle.proof_magnitudes.specs.RunMagnitudes.{RunMagnitudes}
 use Rattle.sheet_figures.specs.declared.Figures.{Figures}
-use Rattle.sheet_figures.specs.Figures.{problem_in, problem_of}
+use Rattle.sheet_figures.specs.Figures.{problem_of}
 use Rattle.run_sums.specs.SumsFit.{SumFits}
 use Rattle.run_costs.specs.OfRun.{cost-fits}
 use Rattle.run_amounts.specs.Amounts.{AmountsFit}
 use Rattle.run_look.specs.LookFits.{ResidualsFit, LookFits}
-use Rattle.run_moves.specs.Moves.{limits_moved, MoveFits}
+use Rattle.run_moves.specs.Moves.{limits_of, MoveFits}
 use Rattle.run_totals.specs.Totals.{TotalsFit}
-
--- the problem that the look is lent: all but the step numerator, which it does not use
-abbrev pub looked_at : Figures → List ℤ → Problem
-looked_at f a = problem_in f.materials f.limits 0 f.scale f.cost f.least f.most a f.rhs
-
-pub same-look : (f : Figures) (a : List ℤ) (M : ℕ → ℤ) → look_at (looked_at f a) M ≡ look_at (problem_of f a) M
-unfolding look_at amount reduced_cost residual load_of dual_value cost_of
-same-look f a M = refl
 
 module _ (f : Figures) (a : List ℤ) {k : ℕ} (accepted : Accepted (problem_of f a) k) (t : ℕ)
     (large : RunMagnitudes (problem_of f a) t) where
@@ -80,24 +72,16 @@ module _ (f : Figures) (a : List ℤ) {k : ℕ} (accepted : Accepted (problem_of
       by-residuals m l =
           sum_to-cong m _ _ (λ i h. ap (λ g. entering P t i *ℤ g) (sym (residuals-are P t i (lt_of_lt_of_le h l))))
 
-  pub look-fits : LookFits (looked_at f a) (entering P t) (replicate 32 (pos 0)) (replicate 16 (pos 0))
-  unfolding look_after look_at amount reduced_cost residual load_of dual_value cost_of
-  look-fits =
-      let cost = cost-fits accepted (amounts P t) large.step.step-cost in
-      record {
-        amounts-fit = record { empty = amounts-fit.empty; narrow = amounts-fit.narrow; each = amounts-fit.each };
-        residuals-fit = record {
-          empty = residuals-fit.empty;
-          narrow = residuals-fit.narrow;
-          few = residuals-fit.few;
-          load = residuals-fit.load;
-          whole = residuals-fit.whole;
-        };
-        cost = record { narrow = cost.narrow; scale = cost.scale; sum = cost.sum; scaled = cost.scaled };
-        value = value-fits;
-      }
+  pub look-fits : LookFits P (entering P t) (replicate 32 (pos 0)) (replicate 16 (pos 0))
+  unfolding look_after
+  look-fits = record {
+    amounts-fit = amounts-fit;
+    residuals-fit = residuals-fit;
+    cost = cost-fits accepted (amounts P t) large.step.step-cost;
+    value = value-fits;
+  }
 
-  pub move-fits : MoveFits (limits_moved f.limits f.numerator) (entering P t) (residuals P t)
+  pub move-fits : MoveFits (limits_of f) (entering P t) (residuals P t)
   move-fits = record {
     few = accepted.limits-few;
     numerator = accepted.numerator-small;
@@ -105,8 +89,16 @@ module _ (f : Figures) (a : List ℤ) {k : ℕ} (accepted : Accepted (problem_of
     uncut = λ i l. rw (residuals-are P t i l) (large.step.uncut i l).fits;
   }
 
-  pub sums-fit : TotalsFit w32 32 f.materials (at (state_after P t).sums) (amounts P t)
-  sums-fit = record { few = accepted.materials-few; one = λ j l. bnd-sfits tt (large.new-sum j l).magnitude }
+  pub sums-fit : TotalsFit w32 32 32 f.materials (at (state_after P t).sums) (amounts P t)
+  sums-fit = record {
+    few = accepted.materials-few;
+    enough = accepted.materials-few;
+    one = λ j l. bnd-sfits tt (large.new-sum j l).magnitude;
+  }
 
-  pub totals-fit : TotalsFit w64 16 f.limits (at (state_after P t).residual_totals) (residuals P t)
-  totals-fit = record { few = accepted.limits-few; one = λ i l. (large.new-total i l).fits }
+  pub totals-fit : TotalsFit w64 16 16 f.limits (at (state_after P t).residual_totals) (residuals P t)
+  totals-fit = record {
+    few = accepted.limits-few;
+    enough = accepted.limits-few;
+    one = λ i l. (large.new-total i l).fits;
+  }

@@ -6,12 +6,12 @@ ghost use Rattle.rules.specs.Answers.{refusal_at};
 ghost use Rattle.sheet_figures.specs.Figures.{problem_of};
 ghost use Rattle.run_step.specs.States.{reached_in, HandedBack};
 ghost use Rattle.run_step.specs.Reached.{LookReady};
+ghost use Rattle.run_step.specs.Looked.{Looked};
 
 use rules::{Cause, Refusal};
-use run_arithmetic::larger;
 use run_look::look_at;
 use run_moves::move_multipliers;
-use run_totals::{add_amounts, add_residuals};
+use run_totals::add;
 use sheet_figures::Figures;
 
 // The state of the run.
@@ -27,61 +27,96 @@ pub struct State {
     pub low: i64,
 }
 
-// What a step hands back: the whole state, and beside it the stop.
+// A stop of the run: the refusal, and the whole state after the steps before it.
 #[derive(Clone, Copy)]
-pub struct Stepped {
-    pub stop: Result<(), Refusal>,
+pub struct Stop {
+    pub refusal: Refusal,
     pub state: State,
 }
 
-// A stop at step t, which leaves the state as it was.
-fn stopped(state: State, t: usize, cause: Cause) -> Stepped
-    ensures { result ≡ record { stop = Err (record { place = t; cause = cause }); state = state } }
-{
-    Stepped {
-        stop: Err(cause.at(t)),
-        state: state,
+// What a stop is refused with, for `?`.
+impl From<Stop> for Refusal {
+    ghost from_gives = { λ stop refusal. refusal ≡ stop.refusal };
+
+    fn from(stop: Stop) -> Refusal {
+        stop.refusal
     }
 }
 
+// for `run_close`, which has it from `look`: what a look at a state's multipliers works out.
+#[derive(Clone, Copy)]
+pub struct Look {
+    // x_j at place j
+    pub amounts: [i16; 32],
+    // g_i at place i
+    pub residuals: [i32; 16],
+    // the dual value
+    pub value: i64,
+}
+
 impl State {
-    // Step t, with D times the greatest cost: the look at the multipliers and its refusal 9, the move and its
-    // refusal 10, then the sums and the totals.
-    pub fn step(self, f: Figures, coefficient: &[i16; 512], greatest: i64, t: usize) -> Stepped
-        requires { LookReady f coefficient.now greatest t self }
-        ensures { HandedBack (problem_of f coefficient.now)
-            (reached_in (problem_of f coefficient.now) (suc t))
-            (refusal_at (problem_of f coefficient.now) t) result }
+    // A stop at step t, which hands the state back as it was.
+    fn stop(self, t: usize, cause: Cause) -> Stop
+        ensures { result ≡ record { refusal = record { place = t; cause = cause }; state = self } }
     {
-        let mut w = self;
-        let mut x: [i16; 32] = [0; 32];
-        let mut g: [i32; 16] = [0; 16];
+        Stop {
+            refusal: cause.at(t),
+            state: self,
+        }
+    }
+
+    // The look at the multipliers after t steps, with D times the greatest cost, or its refusal 9.
+    pub fn look(
+        &self,
+        f: &Figures,
+        coefficient: &[i16; 512],
+        greatest: i64,
+        t: usize,
+    ) -> Result<Look, Stop>
+        requires { LookReady f.now coefficient.now greatest t self.now }
+        ensures { Looked (problem_of f.now coefficient.now) t self.now result }
+    {
+        let mut amounts = [0; 32];
+        let mut residuals = [0; 16];
         let value = look_at(
-            f.materials,
-            f.limits,
-            f.scale,
-            &f.cost,
-            &f.least,
-            &f.most,
+            f,
             coefficient,
-            &f.rhs,
-            &w.multipliers,
-            &mut x,
-            &mut g,
+            &self.multipliers,
+            &mut amounts,
+            &mut residuals,
         );
         if greatest < value {
-            return stopped(self, t, Cause::Infeasible);
+            return Err(self.stop(t, Cause::Infeasible));
         }
-        if move_multipliers(f.limits, f.numerator, &mut w.multipliers, &g) {
-            return stopped(self, t, Cause::Diverged);
+        Ok(Look {
+            amounts,
+            residuals,
+            value,
+        })
+    }
+
+    // Step t, with D times the greatest cost: the look at the multipliers and its refusal 9, the move and its
+    // refusal 10, then the sums and the totals.
+    pub fn step(
+        self,
+        f: &Figures,
+        coefficient: &[i16; 512],
+        greatest: i64,
+        t: usize,
+    ) -> Result<State, Stop>
+        requires { LookReady f.now coefficient.now greatest t self }
+        ensures { HandedBack (problem_of f.now coefficient.now)
+            (reached_in (problem_of f.now coefficient.now) (suc t))
+            (refusal_at (problem_of f.now coefficient.now) t) result }
+    {
+        let look = self.look(f, coefficient, greatest, t)?;
+        let mut next = self;
+        if move_multipliers(f, &mut next.multipliers, &look.residuals) {
+            return Err(self.stop(t, Cause::Diverged));
         }
-        add_amounts(f.materials, &mut w.sums, &x);
-        add_residuals(f.limits, &mut w.totals, &g);
-        let low = w.low;
-        w.low = larger(low, value);
-        Stepped {
-            stop: Ok(()),
-            state: w,
-        }
+        add(f.materials, &mut next.sums, &look.amounts);
+        add(f.limits, &mut next.totals, &look.residuals);
+        next.low = self.low.max(look.value);
+        Ok(next)
     }
 }

@@ -1,10 +1,10 @@
 -- The head and the arrays have the plan, so its record is written and its figures are answered.
-use Rattle.std.proofs.Common.{◌≡◌, ◌∙◌, ◌++◌, drop, rules, to_z, of_z, to_z-of_z, SFits}
+use Rattle.std.proofs.Common.{◌≡◌, ◌∙◌, ◌++◌, [], drop, rules, to_z, of_z, to_z-of_z, SFits}
 use Rattle.std.specs.Int.{w64}
 use Rattle.rules.specs.Notation.{at}
 use Rattle.rules.specs.Run.{gap_of}
 use Rattle.rules.specs.Record.{record_of, record_length}
-use Rattle.run_costs.specs.Costs.{costs_only}
+use Rattle.sheet_figures.specs.Figures.{problem_of}
 use Rattle.out_record.specs.RecordParts.{plan_in}
 use Rattle.planner.specs.Finish.{plan_with}
 use Rattle.planner.proofs.Ending.{ends-planned}
@@ -21,7 +21,7 @@ returns c =
     let gap_is : to_z w64 (of_z w64 c.gap-gap.result) ≡ (plan_with f w).gap =
     to_z-of_z gap_fits
     ∙ c.gap-gap.ensures
-    ∙ (λ k. gap_of (costs_only f.materials f.scale f.cost) f.steps (low-is k) (at w.sums))
+    ∙ (λ k. gap_of (problem_of f []) f.steps (low-is k) (at w.sums))
     in
     ends-planned low-is gap_is
     (c.write_record.ensures

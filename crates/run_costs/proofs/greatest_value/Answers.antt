@@ -4,19 +4,19 @@ use Rattle.std.specs.Int.{w64}
 use Rattle.proof_integer.specs.Range.{bnd-of}
 use Rattle.rules.specs.Problem.{Problem, cost_of}
 use Rattle.rules.specs.Step.{greatest_cost}
-use Rattle.run_ends.specs.SignedEnds.{materials_only}
+use Rattle.run_ends.specs.SignedEnds.{materials_of}
 use Rattle.run_costs.specs.Costs.{CostFits}
 use Rattle.run_costs.proofs.Signs.{greatest-by-sign}
 use Rattle.run_costs.proofs.greatest_value.Goals as goal
 
 pub value_at_ends-requires : goal.value_at_ends-requires
 value_at_ends-requires c =
-    let P : Problem = materials_only c.args.n c.args.scale c.args.cost.now c.args.least.now c.args.most.now in
+    let P : Problem = materials_of c.args.f.now in
     record { unit = bnd-of _ (search rules); cost = subst (CostFits P) (sym (greatest-by-sign P)) c.requires }
 
 pub returns : goal.returns
 unfolding greatest_cost
 returns c =
-    let P : Problem = materials_only c.args.n c.args.scale c.args.cost.now c.args.least.now c.args.most.now in
+    let P : Problem = materials_of c.args.f.now in
     let fits : SFits w64 c.value_at_ends.result = search rules in
     to_z-of_z fits ∙ c.value_at_ends.ensures ∙ (λ k. pos P.scale *ℤ cost_of P (greatest-by-sign P k))

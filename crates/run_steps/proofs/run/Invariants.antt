@@ -1,11 +1,6 @@
 -- Before step t, no step was refused, and what the last one handed back is the state after t steps.
-use Rattle.std.specs.Prelude.{Ok}
-use Rattle.std.proofs.Common.{◌≡◌, ◌-◌}
 use Rattle.run_step.specs.Reached.{Reached}
 use Rattle.run_steps.proofs.run.Given as goal
 
 abbrev pub invariant-loop-t : goal.invariant-loop-t
-invariant-loop-t l = (l.r.stop ≡ Ok tt) × Reached l.f l.coefficient l.t l.r.state
-
-abbrev pub decreases-loop-t : goal.decreases-loop-t
-decreases-loop-t l = l.k - l.t
+invariant-loop-t l = Reached l.f l.coefficient l.t l.state

@@ -1,21 +1,23 @@
 -- The look gives what step t works out, and what comes back is what the step hands back.
-use Rattle.std.proofs.Common.{◌≡◌, ℕ, suc, List, ℤ, ◌+ℤ◌, Bool, false, refl, sym, ◌∙◌, rules, SFits, to_z, of_z}
+use Rattle.std.proofs.Common.{◌≡◌, ℕ, suc, List, ℤ, ◌+ℤ◌, Bool, false, length, sym, ap, ◌∙◌, rules, SFits, to_z, of_z}
 use Rattle.std.proofs.Common.{to_z-of_z}
+use Rattle.std.proofs.lemmas.List.{map-id}
+use Rattle.std.proofs.lemmas.Result.{err_from_is_err_and}
 use mathlib.Core.Path.{transport}
-use Rattle.std.specs.Int.{w32, w64}
-use Rattle.std.specs.Int.Signed.{lt_z}
+use Rattle.std.specs.Int.{w32, w64, int_max}
 use Rattle.rules.specs.Notation.{maxℤ, tabulate, at}
 use Rattle.rules.specs.Problem.{Problem}
-use Rattle.rules.specs.Step.{look_at, infeasible, moved, next, diverged}
+use Rattle.rules.specs.Step.{moved, next, diverged}
 use Rattle.rules.specs.Run.{state_after, look_after}
 use Rattle.rules.specs.Refusals.{number_of, numbered}
 use Rattle.proof_magnitudes.specs.Accepted.{Accepted}
 use Rattle.proof_magnitudes.specs.Steps.{amounts, residuals, low-handed-on}
 use Rattle.sheet_figures.specs.declared.Figures.{Figures}
-use Rattle.sheet_figures.specs.Padded.{padded}
+use Rattle.sheet_figures.specs.Padded.{padded, length-padded}
 use Rattle.sheet_figures.specs.Figures.{problem_of}
+use Rattle.run_arithmetic.proofs.Maximum.{max-is}
 use Rattle.run_look.specs.Given.{LookIn}
-use Rattle.run_moves.specs.Moves.{limits_moved, MoveFits, Moved, places-all}
+use Rattle.run_moves.specs.Moves.{limits_of, MoveFits, Moved, places-all}
 use Rattle.run_totals.specs.Totals.{TotalsFit}
 use Rattle.run_totals.specs.Changed.{Changed, changed-end}
 use Rattle.run_step.specs.declared.State.{State}
@@ -23,9 +25,8 @@ use Rattle.run_step.specs.States.{state_in}
 use Rattle.run_step.specs.Reached.{LookReady}
 use Rattle.run_step.specs.Reads.{sums-read, totals-read}
 use Rattle.run_step.specs.Reads.{multipliers-changed, sums-changed, totals-changed}
-use Rattle.run_step.specs.Fitting.{looked_at, move-fits, sums-fit, totals-fit}
-use Rattle.run_step.specs.Looks.{large, multipliers-enter, look-ready, amounts-read, residuals-read}
-use Rattle.run_step.specs.Looks.{test-of-run, low-of-run}
+use Rattle.run_step.specs.Fitting.{move-fits, sums-fit, totals-fit}
+use Rattle.run_step.specs.Looks.{large, multipliers-enter, amounts-read, residuals-read, low-of-run}
 use Rattle.run_step.specs.Stops.{refused-9, refused-10, not-refused, hands-stop, hands-state}
 use Rattle.run_step.proofs.State.step.Goals as goal
 
@@ -41,37 +42,48 @@ module _ {f : Figures} {a : List ℤ} {greatest : ℤ} {t : ℕ} {w : State} (re
   unfolding state_in
   sums-are = sums-read accepted t (λ k. (ready.reached.state k).sums)
 
+  sums-long : length w.sums ≡ 32
+  unfolding state_in
+  sums-long = ap length (λ k. (ready.reached.state k).sums) ∙ length-padded 32 _
+
   totals-are : at w.totals ≡ at (state_after P t).residual_totals
   unfolding state_in
   totals-are = totals-read accepted t (λ k. (ready.reached.state k).totals)
 
+  totals-long : length w.totals ≡ 16
+  unfolding state_in
+  totals-long = ap length (λ k. (ready.reached.state k).totals) ∙ length-padded 16 _
+
   -- ---- after the look: the amounts x, the residuals g and the dual value
-  module _ {x g : List ℤ} {value : ℤ} (look : LookIn (look_at (looked_at f a) (at w.multipliers)) x g value) where
+  module _ {x g : List ℤ} {value : ℤ} (look : LookIn (look_after P t) x g value) where
     x-reads : at x ≡ amounts P t
     x-reads = amounts-read ready look
+
+    x-long : length x ≡ 32
+    x-long = ap length look.amounts-are ∙ length-padded 32 _
 
     g-reads : at g ≡ residuals P t
     g-reads = residuals-read ready look
 
-    -- the test is that of T4.6
-    test-9 : SFits w64 greatest → SFits w64 value
-        → lt_z (to_z w64 (of_z w64 greatest)) (to_z w64 (of_z w64 value)) ≡ infeasible P (look_after P t)
-    test-9 c-fits v-fits = (λ k. lt_z (to_z-of_z c-fits k) (to_z-of_z v-fits k)) ∙ test-of-run ready look
+    g-long : length g ≡ 16
+    g-long = ap length look.residuals-are ∙ length-padded 16 _
 
-    move-asks : MoveFits (limits_moved f.limits f.numerator) (at w.multipliers) (at g)
+    move-asks : MoveFits (limits_of f) (at w.multipliers) (at g)
     move-asks =
         transport
-        (λ k. MoveFits (limits_moved f.limits f.numerator) (sym (multipliers-enter ready) k) (sym g-reads k))
+        (λ k. MoveFits (limits_of f) (sym (multipliers-enter ready) k) (sym g-reads k))
         (move-fits f a accepted t (large ready))
 
-    sums-ask : TotalsFit w32 32 f.materials (at w.sums) (at x)
+    sums-ask : TotalsFit w32 (length w.sums) (length x) f.materials (at w.sums) (at x)
     sums-ask =
-        transport (λ k. TotalsFit w32 32 f.materials (sym sums-are k) (sym x-reads k))
+        transport
+        (λ k. TotalsFit w32 (sym sums-long k) (sym x-long k) f.materials (sym sums-are k) (sym x-reads k))
         (sums-fit f a accepted t (large ready))
 
-    totals-ask : TotalsFit w64 16 f.limits (at w.totals) (at g)
+    totals-ask : TotalsFit w64 (length w.totals) (length g) f.limits (at w.totals) (at g)
     totals-ask =
-        transport (λ k. TotalsFit w64 16 f.limits (sym totals-are k) (sym g-reads k))
+        transport
+        (λ k. TotalsFit w64 (sym totals-long k) (sym g-long k) f.limits (sym totals-are k) (sym g-reads k))
         (totals-fit f a accepted t (large ready))
 
     -- ---- the move: the multipliers after the step, as the code moves them
@@ -79,8 +91,7 @@ module _ {f : Figures} {a : List ℤ} {greatest : ℤ} {t : ℕ} {w : State} (re
     unfolding state_after next look_after
     moves-are = λ k. tabulate P.limits (moved P (multipliers-enter ready k) (g-reads k))
 
-    module _ {m : List ℤ} {b : Bool}
-        (move : Moved (limits_moved f.limits f.numerator) (at g) w.multipliers m b) where
+    module _ {m : List ℤ} {b : Bool} (move : Moved (limits_of f) (at g) w.multipliers m b) where
       -- the test is that of T4.8
       test-10 : b ≡ diverged P (state_after P (suc t)).multipliers
       unfolding diverged moved
@@ -111,62 +122,57 @@ module _ {f : Figures} {a : List ℤ} {greatest : ℤ} {t : ℕ} {w : State} (re
         ∙ (λ k. padded 16 (tabulate P.limits (λ i. totals-are k i +ℤ g-reads k i)))
 
     low-is : {r : ℤ} → SFits w64 w.low → SFits w64 value → SFits w64 r
-        → r ≡ maxℤ (to_z w64 (of_z w64 w.low)) (to_z w64 (of_z w64 value))
+        → r ≡ int_max (to_z w64 (of_z w64 w.low)) (to_z w64 (of_z w64 value))
         → to_z w64 (of_z w64 r) ≡ (state_after P (suc t)).lower_bound
     low-is low_fits v-fits fits e =
         to_z-of_z fits
         ∙ e
+        ∙ max-is _ _
         ∙ (λ k. maxℤ (to_z-of_z low_fits k) (to_z-of_z v-fits k))
         ∙ low-of-run ready look
         ∙ low-handed-on P t
 
-pub look_at-value-requires : goal.look_at-value-requires
-look_at-value-requires c = look-ready c.requires
-
-pub returns-then-greatest-value : goal.returns-then-greatest-value
+-- ---- the look is refused
+pub returns-in_err-look : goal.returns-in_err-look
 unfolding numbered number_of
-returns-then-greatest-value c =
-    let P : Problem = problem_of c.args.f c.args.coefficient.now in
-    let v-fits : SFits w64 c.look_at-value.result = search rules in
-    hands-stop P _ c.stopped.ensures
-    (refused-9 P c.args.t
-    (sym (test-9 c.requires c.look_at-value.ensures c.ranges.greatest v-fits) ∙ c.if-greatest-value.true))
-    c.requires.reached.state
+returns-in_err-look c =
+    let P : Problem = problem_of c.args.f.now c.args.coefficient.now in
+    let h = c.in_err-look.ensures in
+    let p = err_from_is_err_and c.from_residual.result c.from_residual.ensures.1 in
+    rw p.1 (hands-stop P _ (p.2 ∙ h.is) (refused-9 P c.args.t h.test) c.requires.reached.state)
 
 pub move_multipliers-requires : goal.move_multipliers-requires
-move_multipliers-requires c = move-asks c.requires c.look_at-value.ensures
+move_multipliers-requires c = move-asks c.requires c.in_ok-look.ensures.is
 
 pub returns-then-move_multipliers : goal.returns-then-move_multipliers
 unfolding numbered number_of
 returns-then-move_multipliers c =
-    let P : Problem = problem_of c.args.f c.args.coefficient.now in
-    let v-fits : SFits w64 c.look_at-value.result = search rules in
-    hands-stop P _ c.stopped-then-move_multipliers.ensures
-    (refused-10 P c.args.t
-    (sym (test-9 c.requires c.look_at-value.ensures c.ranges.greatest v-fits) ∙ c.if-greatest-value.false)
-    (sym (test-10 c.requires c.look_at-value.ensures c.move_multipliers.ensures) ∙ c.if-move_multipliers.true))
+    let P : Problem = problem_of c.args.f.now c.args.coefficient.now in
+    let look = c.in_ok-look.ensures in
+    hands-stop P _ c.stop.ensures
+    (refused-10 P c.args.t look.test
+    (sym (test-10 c.requires look.is c.move_multipliers.ensures) ∙ c.if-move_multipliers.true))
     c.requires.reached.state
 
-pub add_amounts-requires : goal.add_amounts-requires
-add_amounts-requires c = sums-ask c.requires c.look_at-value.ensures
+pub add-requires : goal.add-requires
+add-requires c = simp map-id (sums-ask c.requires c.in_ok-look.ensures.is)
 
-pub add_residuals-requires : goal.add_residuals-requires
-add_residuals-requires c = totals-ask c.requires c.look_at-value.ensures
+pub add-requires-2 : goal.add-requires-2
+add-requires-2 c = simp map-id (totals-ask c.requires c.in_ok-look.ensures.is)
 
 pub returns : goal.returns
 unfolding state_in
 returns c =
-    let P : Problem = problem_of c.args.f c.args.coefficient.now in
-    let v-fits : SFits w64 c.look_at-value.result = search rules in
+    let P : Problem = problem_of c.args.f.now c.args.coefficient.now in
+    let v-fits : SFits w64 c.in_ok-look.look.value = search rules in
     let low_fits : SFits w64 c.args.self.low = search rules in
-    let fits : SFits w64 c.larger.result = search rules in
-    let look = c.look_at-value.ensures in
-    let m-are = multipliers-are c.requires look c.move_multipliers.ensures c.if-move_multipliers.false in
-    let s-are = sums-after c.requires look c.add_amounts.ensures in
-    let t-are = totals-after c.requires look c.add_residuals.ensures in
-    let l-is = low-is c.requires look low_fits v-fits fits c.larger.ensures in
-    hands-state P refl
-    (not-refused P c.args.t
-    (sym (test-9 c.requires look c.ranges.greatest v-fits) ∙ c.if-greatest-value.false)
-    (sym (test-10 c.requires look c.move_multipliers.ensures) ∙ c.if-move_multipliers.false))
+    let fits : SFits w64 c.max.result = search rules in
+    let look = c.in_ok-look.ensures in
+    let converges = c.if-move_multipliers.false in
+    let m-are = multipliers-are c.requires look.is c.move_multipliers.ensures converges in
+    let s-are = sums-after c.requires look.is (simp map-id at c.add.ensures) in
+    let t-are = totals-after c.requires look.is (simp map-id at c.add-2.ensures) in
+    let l-is = low-is c.requires look.is low_fits v-fits fits c.max.ensures.value in
+    hands-state P
+    (not-refused P c.args.t look.test (sym (test-10 c.requires look.is c.move_multipliers.ensures) ∙ converges))
     (λ k. record { multipliers = m-are k; sums = s-are k; totals = t-are k; low = l-is k })

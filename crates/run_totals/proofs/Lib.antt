@@ -1,3 +1,0 @@
--- What the proofs share.
---   Adding   totals added to in place
-pub mod Adding
