@@ -19,6 +19,7 @@ use out_listing::write_listing;
 use out_mps::write_mps;
 use planner::plan;
 use rules::{PlanFigures, Refusal, Shape, Sizes};
+use rules_arrays::Arrays;
 use sheet_write::write_sheet;
 
 // The version of the rules that this library follows.
@@ -146,7 +147,15 @@ pub fn batchplan_write_sheet(
         scale: d,
         steps: k,
     };
-    let pair = Pair::from(write_sheet(sizes, cost, least, most, a, b, start, sheet));
+    let arrays = Arrays {
+        costs: cost,
+        least_amounts: least,
+        most_amounts: most,
+        coefficients: a,
+        right_hand_sides: b,
+        starts: start,
+    };
+    let pair = Pair::from(write_sheet(sizes, &arrays, sheet));
     *length_or_place = pair.beside;
     pair.number
 }

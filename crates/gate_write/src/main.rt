@@ -24,6 +24,7 @@ use gate_frames::{Frame, frame_at, write_line};
 use out_numbers::put_number;
 use out_text::{put_byte, put_bytes};
 use rules::{Refusal, Shape, Sizes};
+use rules_arrays::Arrays;
 use std::io::Print;
 
 // The room for the input.
@@ -153,16 +154,15 @@ fn print_written(output: &impl Print, case: &[u8], figures: &[i32], buffer: &mut
         return false;
     }
     fill(buffer);
-    let answer = sheet_write::write_sheet(
-        sizes_of(case),
-        &figures[0..costs],
-        &figures[costs..leasts],
-        &figures[leasts..mosts],
-        &figures[mosts..factors],
-        &figures[factors..limits],
-        &figures[limits..starts],
-        buffer,
-    );
+    let arrays = Arrays {
+        costs: &figures[0..costs],
+        least_amounts: &figures[costs..leasts],
+        most_amounts: &figures[leasts..mosts],
+        coefficients: &figures[mosts..factors],
+        right_hand_sides: &figures[factors..limits],
+        starts: &figures[limits..starts],
+    };
+    let answer = sheet_write::write_sheet(sizes_of(case), &arrays, buffer);
     print_output(output, answer, buffer);
     true
 }

@@ -1,6 +1,4 @@
-// Sizes and entries of a sheet into a lent buffer. Where it takes e entries, their keys stand from 12 on, and their
-// values from 12 + 2e on. `count` is how many entries there are already, and each function answers how many there are
-// then.
+// Sizes and entries of a sheet into a lent buffer.
 #![tactic(auto)]
 
 ghost use Rattle.std.specs.Prelude.{◌≡◌};
@@ -28,15 +26,31 @@ pub fn put_sizes(sheet: &mut [u8], sizes: Sizes, e: usize)
     put_unsigned(sheet, 10, 2, sizes.steps as u64);
 }
 
-// The entry of a figure under its key. A figure of 0 has none.
-pub fn put_figure(sheet: &mut [u8], e: usize, count: usize, key: usize, figure: i32) -> usize
-    requires { FigureReady e count key figure sheet.old }
-    ensures { Put e count (entry key figure) sheet.old sheet.new result }
-{
-    if figure == 0 {
-        return count;
+// Puts entries into the buffer of a sheet that has so many `entries`: their keys stand from 12 on, and their values
+// from 12 + 2 `entries` on. `count` is how many are put already.
+#[derive(Drop)]
+pub struct EntryWriter<'a> {
+    pub sheet: &'a mut [u8],
+    pub entries: usize,
+    pub count: usize,
+}
+
+impl<'a> EntryWriter<'a> {
+    // The entry of a figure under its key. A figure of 0 has none.
+    pub fn put_figure(&mut self, key: usize, figure: i32)
+        requires { FigureReady key figure self.old }
+        ensures { Put (entry key figure) self.old self.new }
+    {
+        if figure == 0 {
+            return;
+        }
+        put_unsigned(self.sheet, 12 + 2 * self.count, 2, key as u64);
+        put_signed(
+            self.sheet,
+            12 + 2 * self.entries + 4 * self.count,
+            4,
+            i64::from(figure),
+        );
+        self.count += 1;
     }
-    put_unsigned(sheet, 12 + 2 * count, 2, key as u64);
-    put_signed(sheet, 12 + 2 * e + 4 * count, 4, figure as i64);
-    count + 1
 }

@@ -1,3 +1,3 @@
 -- Putting the rows of a sheet into a lent buffer.
---   Ready   what that asks
+--   Ready   the entries of the rows, and what putting them asks
 pub mod Ready

@@ -3,80 +3,57 @@
 
 ghost use Rattle.std.specs.Prelude.{◌≡◌, length};
 ghost use Rattle.rules.specs.Output.{Writes};
-ghost use Rattle.rules_arrays.specs.Arrays.{sheet_from, write_refusal, arrays};
+ghost use Rattle.rules_arrays.specs.Arrays.{sheet_from, write_refusal};
 ghost use Rattle.rules_arrays.specs.ReadBack.{figures_present};
 ghost use Rattle.bytes_write.specs.Written.{written};
 ghost use Rattle.sheet_write.specs.Ready.{Short, SheetReady};
 
 use rules::{Cause, Refusal, Sizes};
+use rules_arrays::Arrays;
 use sheet_array_checks::{check_arrays, present_in};
-use sheet_put::put_sizes;
+use sheet_put::{EntryWriter, put_sizes};
 use sheet_rows::put_entries;
 
-// How many figures are not 0.
-fn count_entries(
-    cost: &[i32],
-    least: &[i32],
-    most: &[i32],
-    a: &[i32],
-    b: &[i32],
-    start: &[i32],
-) -> usize
-    requires { Short (arrays cost.now least.now most.now a.now b.now start.now) }
-    ensures { result ≡ figures_present (arrays cost.now least.now most.now
-        a.now b.now start.now) }
+// How many figures are not 0. Six fields are added as they stand: an array of them with `map` and `sum` is no plainer.
+fn count_entries(arrays: &Arrays) -> usize
+    requires { Short arrays.now }
+    ensures { result ≡ figures_present arrays.now }
 {
-    let materials = present_in(cost) + present_in(least) + present_in(most);
-    materials + present_in(a) + present_in(b) + present_in(start)
+    present_in(arrays.costs)
+        + present_in(arrays.least_amounts)
+        + present_in(arrays.most_amounts)
+        + present_in(arrays.coefficients)
+        + present_in(arrays.right_hand_sides)
+        + present_in(arrays.starts)
 }
 
 // The sheet of e entries to the start of a buffer that takes it.
-fn put_sheet(
-    sheet: &mut [u8],
-    e: usize,
-    sizes: Sizes,
-    cost: &[i32],
-    least: &[i32],
-    most: &[i32],
-    a: &[i32],
-    b: &[i32],
-    start: &[i32],
-)
-    requires { SheetReady e sizes (arrays cost.now least.now most.now a.now b.now start.now)
-        sheet.old }
-    ensures { sheet.new ≡ written (sheet_from sizes (arrays cost.now least.now
-        most.now a.now b.now start.now)) sheet.old }
+fn put_sheet(sheet: &mut [u8], e: usize, sizes: Sizes, arrays: &Arrays)
+    requires { SheetReady e sizes arrays.now sheet.old }
+    ensures { sheet.new ≡ written (sheet_from sizes arrays.now) sheet.old }
 {
-    let shape = sizes.shape;
     put_sizes(sheet, sizes, e);
-    put_entries(sheet, e, shape, cost, least, most, a, b, start);
+    let mut writer = EntryWriter {
+        sheet,
+        entries: e,
+        count: 0,
+    };
+    put_entries(&mut writer, sizes.shape, arrays);
 }
 
 // Writes the sheet of these sizes and figures: any numbers, into any buffer. It answers the length of the sheet, which
 // stands at the start of the buffer before the rest as it was; or a refusal, with the buffer as it was.
-pub fn write_sheet(
-    sizes: Sizes,
-    cost: &[i32],
-    least: &[i32],
-    most: &[i32],
-    a: &[i32],
-    b: &[i32],
-    start: &[i32],
-    sheet: &mut [u8],
-) -> Result<usize, Refusal>
-    ensures { Writes
-        (sheet_from sizes (arrays cost.now least.now most.now a.now
-        b.now start.now))
-        (write_refusal sizes (arrays cost.now least.now most.now a.now
-        b.now start.now) (length sheet.old))
+pub fn write_sheet(sizes: Sizes, arrays: &Arrays, sheet: &mut [u8]) -> Result<usize, Refusal>
+    ensures { Writes (sheet_from sizes arrays.now)
+        (write_refusal sizes arrays.now (length sheet.old))
         sheet.old sheet.new result }
 {
-    check_arrays(sizes, cost, least, most, a, b, start)?;
-    let e = count_entries(cost, least, most, a, b, start);
+    check_arrays(sizes, arrays)?;
+    let e = count_entries(arrays);
     let wanted = 12 + 6 * e;
     if sheet.len() < wanted {
         return Err(Cause::Buffer.at(wanted));
     }
-    put_sheet(sheet, e, sizes, cost, least, most, a, b, start);
+    put_sheet(sheet, e, sizes, arrays);
     Ok(wanted)
 }

@@ -1,10 +1,10 @@
 -- Each test that passes hands on to the next.
 use Rattle.std.proofs.Common.{sym, ap, ◌∙◌, Err}
 use Rattle.rules.specs.Refusals.{number_of, numbered, refusal_of}
-use Rattle.rules_arrays.specs.Arrays.{arrays}
+use Rattle.rules_arrays.specs.Arrays.{Arrays}
 use Rattle.sheet_arrays.specs.Lengths.{lengths-match}
 use Rattle.sheet_array_checks.specs.Checks.{shape-refused, small, lengths-refused, parameters-refused}
-use Rattle.sheet_array_checks.specs.Checks.{figures-refused, amounts-decide}
+use Rattle.sheet_array_checks.specs.Checks.{figures-refused, amounts-decide, amounts_refusal}
 use Rattle.sheet_array_checks.proofs.check_arrays.Goals as goal
 
 pub returns-then-not-dimensions_in_range : goal.returns-then-not-dimensions_in_range
@@ -15,9 +15,7 @@ returns-then-not-dimensions_in_range c =
 
 pub lengths_match-requires : goal.lengths_match-requires
 lengths_match-requires c =
-    small c.args.sizes
-    (arrays c.args.cost.now c.args.least.now c.args.most.now c.args.a.now c.args.b.now c.args.start.now)
-    (sym c.if-not-dimensions_in_range.ensures)
+    small c.args.sizes c.args.arrays.now (sym c.if-not-dimensions_in_range.ensures)
 
 -- ---- the lengths
 pub returns-then-not-lengths_match : goal.returns-then-not-lengths_match
@@ -45,10 +43,12 @@ returns-then-figures_outside c =
 pub check_amounts-requires : goal.check_amounts-requires
 check_amounts-requires c =
     let lengths = lengths-match _ _ (sym c.if-not-lengths_match.ensures) in
-    record { as_many = lengths.least_amounts ∙ sym lengths.most_amounts }
+    let same = lengths.least_amounts ∙ sym lengths.most_amounts in
+    record { as_many = rw (← c.arrays.view_is) at same }
 
 pub returns : goal.returns
 returns c =
     c.check_amounts.ensures
+    ∙ ap (λ (A : Arrays). amounts_refusal A.least_amounts A.most_amounts) c.arrays.view_is
     ∙ sym (amounts-decide _ _ (sym c.if-not-dimensions_in_range.ensures) (sym c.if-not-lengths_match.ensures)
     (sym c.if-not-parameters_in_range.ensures) (sym c.if-figures_outside.ensures))

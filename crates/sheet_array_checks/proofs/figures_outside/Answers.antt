@@ -5,10 +5,10 @@ use Rattle.sheet_array_checks.proofs.figures_outside.Goals as goal
 
 pub returns : goal.returns
 unfolding arrays_outside
-returns c = λ t.
+returns c = rw (← c.arrays.view_is) (λ t.
     c.any_outside.ensures t
     || c.any_outside-2.ensures t
     || c.any_outside-3.ensures t
     || c.any_outside-4.ensures t
     || c.any_outside-5.ensures t
-    || c.any_outside-6.ensures t
+    || c.any_outside-6.ensures t)

@@ -4,4 +4,4 @@ use Rattle.sheet_array_checks.proofs.lengths_match.Goals as goal
 
 pub returns : goal.returns
 unfolding lengths_match
-returns c = refl
+returns c = rw (← c.arrays.view_is) refl

@@ -1,81 +1,69 @@
 -- The costs, the least amounts and the most amounts, each after those before.
-use Rattle.std.proofs.Common.{◌≡◌, sym, ap, List, ◌++◌, ℕ, ◌+◌, ℤ, length, arith}
-use Rattle.std.proofs.Math.Nat.{zero-add}
+use Rattle.std.proofs.Common.{◌≡◌, refl, List, ◌++◌, ℕ, ℤ, length, arith}
 use Rattle.rules.specs.Notation.{at}
-use Rattle.sheet_arrays.specs.Runs.{Entry, run, run-cong}
+use Rattle.rules.specs.declared.Shape.{Shape}
+use Rattle.rules_arrays.specs.Arrays.{Arrays}
+use Rattle.sheet_arrays.specs.Runs.{Entry, run}
 use Rattle.sheet_arrays.specs.Listed.{material_entries}
-use Rattle.sheet_put.specs.Put.{Put, EntriesRoom, room-first, room_next, put-more}
-use Rattle.sheet_rows.specs.Ready.{RunReady, MaterialsReady}
+use Rattle.sheet_put.specs.declared.EntryWriter.{EntryWriter}
+use Rattle.sheet_put.specs.Put.{Put, EntriesRoom}
+use Rattle.sheet_rows.specs.Ready.{materials_of, RunReady, EntriesReady}
+use Rattle.sheet_rows.proofs.Parts.{room-for-first, room-for-second, room-for-third, put-three}
 use Rattle.sheet_rows.proofs.put_materials.Goals as goal
 
--- the figures from place 0 on
-abbrev whole : ℕ → ℕ → List ℤ → List Entry
-whole first n xs = run first n (λ j. at xs (0 + j))
-
-whole_is : (first n : ℕ) (xs : List ℤ) → run first n (at xs) ≡ whole first n xs
-whole_is first n xs = run-cong first n (at xs) (λ j. at xs (0 + j)) (λ j l. ap (at xs) (sym (zero-add j)))
+-- the entries of all figures of a list
+abbrev whole : ℕ → List ℤ → List Entry
+whole first xs = run first (length xs) (at xs)
 
 -- ---- the three parts of the entries
-module _ {e n : ℕ} {cost least most : List ℤ} {d : List ℕ} (ready : MaterialsReady e 0 n cost least most d) where
+module _ {z : Shape} {A : Arrays} {w : EntryWriter} (ready : EntriesReady (materials_of z A) z A w) where
   abbrev costs : List Entry
-  costs = whole 0 n cost
+  costs = whole 0 A.costs
 
   abbrev leasts : List Entry
-  leasts = whole 64 n least
+  leasts = whole 64 A.least_amounts
 
   abbrev mosts : List Entry
-  mosts = whole 128 n most
+  mosts = whole 128 A.most_amounts
 
-  parts : material_entries n cost least most ≡ costs ++ leasts ++ mosts
+  parts : materials_of z A ≡ costs ++ leasts ++ mosts
   unfolding material_entries
-  parts = λ t. whole_is 0 n cost t ++ whole_is 64 n least t ++ whole_is 128 n most t
+  parts = rw (ready.lengths.costs, ready.lengths.least_amounts, ready.lengths.most_amounts) refl
 
-  room : EntriesRoom e 0 (length (costs ++ leasts ++ mosts)) d
+  room : EntriesRoom (length (costs ++ leasts ++ mosts)) w
   room = rw parts at ready.room
 
-  room-both : EntriesRoom e 0 (length (costs ++ leasts)) d
-  room-both = room-first (costs ++ leasts) mosts room
-
-  costs-ready : RunReady e 0 0 cost 0 n d
+  costs-ready : RunReady 0 A.costs w
   costs-ready = record {
-    room = room-first costs leasts room-both;
-    inside = omega (arith, ready.cost);
-    keys = omega (arith, ready.narrow);
+    room = room-for-first costs leasts mosts room;
+    keys = omega (arith, ready.narrow, ready.lengths.costs);
   }
 
-  -- the costs are put
-  module _ {d' : List ℕ} {r : ℕ} (first : Put e 0 costs d d' r) where
-    leasts-ready : RunReady e r 64 least 0 n d'
-    leasts-ready = record {
-      room = room_next costs leasts room-both first;
-      inside = omega (arith, ready.least);
-      keys = omega (arith, ready.narrow);
-    }
+  leasts-ready : {v : EntryWriter} → Put costs w v → RunReady 64 A.least_amounts v
+  leasts-ready first = record {
+    room = room-for-second costs leasts mosts room first;
+    keys = omega (arith, ready.narrow, ready.lengths.least_amounts);
+  }
 
-    -- and the least amounts
-    module _ {d'' : List ℕ} {r' : ℕ} (second : Put e r leasts d' d'' r') where
-      both : Put e 0 (costs ++ leasts) d d'' r'
-      both = put-more costs leasts room-both first second
+  mosts-ready : {v u : EntryWriter} → Put costs w v → Put leasts v u → RunReady 128 A.most_amounts u
+  mosts-ready first second = record {
+    room = room-for-third costs leasts mosts room first second;
+    keys = omega (arith, ready.narrow, ready.lengths.most_amounts);
+  }
 
-      mosts-ready : RunReady e r' 128 most 0 n d''
-      mosts-ready = record {
-        room = room_next (costs ++ leasts) mosts room both;
-        inside = omega (arith, ready.most);
-        keys = omega (arith, ready.narrow);
-      }
-
-      all : {d''' : List ℕ} {r'' : ℕ} → Put e r' mosts d'' d''' r''
-          → Put e 0 (material_entries n cost least most) d d''' r''
-      all last = rw parts (put-more (costs ++ leasts) mosts room both last)
-
-pub put_run-costs-requires : goal.put_run-costs-requires
-put_run-costs-requires c = costs-ready c.requires
-
-pub put_run-leasts-requires : goal.put_run-leasts-requires
-put_run-leasts-requires c = leasts-ready c.requires c.put_run-costs.ensures
+  all : {v u t : EntryWriter} → Put costs w v → Put leasts v u → Put mosts u t → Put (materials_of z A) w t
+  all first second third = rw parts (put-three costs leasts mosts room first second third)
 
 pub put_run-requires : goal.put_run-requires
-put_run-requires c = mosts-ready c.requires c.put_run-costs.ensures c.put_run-leasts.ensures
+put_run-requires c = costs-ready (rw (← c.arrays.view_is) at c.requires)
+
+pub put_run-requires-2 : goal.put_run-requires-2
+put_run-requires-2 c = leasts-ready (rw (← c.arrays.view_is) at c.requires) c.put_run.ensures
+
+pub put_run-requires-3 : goal.put_run-requires-3
+put_run-requires-3 c = mosts-ready (rw (← c.arrays.view_is) at c.requires) c.put_run.ensures c.put_run-2.ensures
 
 pub returns : goal.returns
-returns c = all c.requires c.put_run-costs.ensures c.put_run-leasts.ensures c.put_run.ensures
+returns c =
+    rw (← c.arrays.view_is)
+    (all (rw (← c.arrays.view_is) at c.requires) c.put_run.ensures c.put_run-2.ensures c.put_run-3.ensures)

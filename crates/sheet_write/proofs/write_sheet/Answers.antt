@@ -1,4 +1,5 @@
--- The figures are tested, then the buffer; and then the sheet is put there.
+-- The figures are tested, then the buffer; and then the sheet is put there. What the tests answer is read by `cc`, for
+-- the arrays that are lent or for others of the same figures.
 use Rattle.std.specs.Prelude.{Ok, Err}
 use Rattle.std.proofs.Common.{◌≡◌, sym, ap, ◌∙◌, List, ℕ, ◌+◌, ◌*◌, ◌<◌, ◌≤◌, length, arith}
 use Rattle.std.proofs.Math.Option.{none, some}
@@ -71,39 +72,37 @@ pub returns-in_err-check_arrays : goal.returns-in_err-check_arrays
 unfolding refusal_of
 returns-in_err-check_arrays c =
     let err = err_from_is_err_and c.from_residual.result c.from_residual.ensures.1 in
-    rw (err.1, err.2) (refused c.args.sizes _ c.args.sheet.now _ c.in_err-check_arrays.ensures)
+    rw (err.1, err.2) (refused c.args.sizes c.args.arrays.now c.args.sheet.now _ (cc c.in_err-check_arrays.ensures))
 
 pub count_entries-e-requires : goal.count_entries-e-requires
 unfolding refusal_of
-count_entries-e-requires c = short c.args.sizes _ c.args.sheet.now c.in_ok-check_arrays.ensures
+count_entries-e-requires c = short c.args.sizes c.args.arrays.now c.args.sheet.now (cc c.in_ok-check_arrays.ensures)
 
 pub overflow_mul-wanted : goal.overflow_mul-wanted
 unfolding refusal_of
 overflow_mul-wanted c = record {
-  fits = omega (arith, few c.args.sizes _ c.args.sheet.now c.in_ok-check_arrays.ensures _ c.count_entries-e.ensures);
+  fits = omega (arith, few c.args.sizes c.args.arrays.now c.args.sheet.now (cc c.in_ok-check_arrays.ensures) _ c.count_entries-e.ensures);
 }
 
 pub overflow_add-wanted : goal.overflow_add-wanted
 unfolding refusal_of
 overflow_add-wanted c = record {
-  fits = omega (arith, few c.args.sizes _ c.args.sheet.now c.in_ok-check_arrays.ensures _ c.count_entries-e.ensures);
+  fits = omega (arith, few c.args.sizes c.args.arrays.now c.args.sheet.now (cc c.in_ok-check_arrays.ensures) _ c.count_entries-e.ensures);
 }
 
 pub returns-then-sheet-wanted : goal.returns-then-sheet-wanted
 unfolding refusal_of
 returns-then-sheet-wanted c =
-    lacking c.args.sizes _ c.args.sheet.now c.in_ok-check_arrays.ensures _ c.count_entries-e.ensures
+    lacking c.args.sizes c.args.arrays.now c.args.sheet.now (cc c.in_ok-check_arrays.ensures) _ c.count_entries-e.ensures
     c.at.ensures c.if-sheet-wanted.true
 
 pub put_sheet-requires : goal.put_sheet-requires
 unfolding refusal_of
 put_sheet-requires c =
-    sheet-ready c.args.sizes _ c.args.sheet.now c.in_ok-check_arrays.ensures _ c.count_entries-e.ensures
-    c.if-sheet-wanted.false
+    sheet-ready c.args.sizes c.args.arrays.now c.args.sheet.now (cc c.in_ok-check_arrays.ensures) _ c.count_entries-e.ensures c.if-sheet-wanted.false
 
 pub returns : goal.returns
 unfolding refusal_of
 returns c =
-    wrote c.args.sizes _ c.args.sheet.now c.in_ok-check_arrays.ensures _ c.count_entries-e.ensures
-    c.if-sheet-wanted.false
+    wrote c.args.sizes c.args.arrays.now c.args.sheet.now (cc c.in_ok-check_arrays.ensures) _ c.count_entries-e.ensures c.if-sheet-wanted.false
     c.put_sheet.ensures

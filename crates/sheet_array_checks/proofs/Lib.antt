@@ -1,0 +1,2 @@
+-- What chains of iterators answer, in the words of the definitions.
+pub mod Chains

@@ -1,0 +1,3 @@
+-- What the proofs of several functions rest on.
+--   Parts   entries that are put part by part
+pub mod Parts
