@@ -24,10 +24,8 @@ fn unsigned_at(s: &[u8], at: usize, width: usize) -> u64
     ensures { ReadUnsigned width s.now at result }
 {
     let mut value: u64 = 0;
-    let mut left = width;
-    while 0 < left {
-        left -= 1;
-        value = 256 * value + s[at + left] as u64;
+    for byte in s[at..at + width].iter().rev() {
+        value = 256 * value + u64::from(*byte);
     }
     value
 }
