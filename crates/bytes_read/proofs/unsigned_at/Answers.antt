@@ -1,4 +1,4 @@
-use Rattle.std.proofs.Common.{◌≡◌, ℕ, suc, ◌+◌, ◌-◌, ◌*◌, ◌^◌, ◌<◌, ◌≤◌, List, [], ◌∷◌, ◌++◌, length, get_or, take, drop}
+use Rattle.std.proofs.Common.{◌≡◌, ℕ, suc, ◌+◌, ◌-◌, ◌*◌, ◌^◌, ◌<◌, List, [], ◌∷◌, ◌++◌, length, get_or, take, drop}
 use Rattle.std.proofs.Common.{sym, ap, ◌∙◌, arith, get_or-drop, length-drop, length-take-le, Fits, w8}
 use Rattle.std.proofs.Math.Nat.{pow-succ', pow-le-pow_right}
 use Rattle.std.proofs.lemmas.List.{take_more, same_from_push, length_push}
@@ -8,14 +8,17 @@ use Rattle.bytes_read.proofs.unsigned_at.Invariants.{Turn}
 use Rattle.bytes_read.proofs.unsigned_at.Goals as goal
 
 -- no byte is taken yet
-start : {s : List ℕ} {at width : ℕ} → Inside width s at → Turn s at width 0 (take width (drop at s))
+start : {s left : List ℕ} {at width : ℕ} (from n : ℕ) → Inside width s at → left ≡ take n (drop from s)
+    → from ≡ at → n ≡ width → Turn s at width 0 left
 unfolding unsigned_at
-start {s} {at} {width} asked =
-    let long = length-take-le width (drop at s) (omega (arith, asked.ends, length-drop at s)) in
-    let none : width - length (take width (drop at s)) ≡ 0 = omega arith in
+start {s} {left} {at} {width} from n asked part begins ends =
+    let all : left ≡ take width (drop at s) = part ∙ (λ i. take (ends i) (drop (begins i) s)) in
+    let long : length left ≡ width =
+    ap length all ∙ length-take-le width (drop at s) (omega (arith, asked.ends, length-drop at s)) in
+    let none : width - length left ≡ 0 = omega arith in
     record {
       within = omega arith;
-      is = ap (λ (n : ℕ). take n (drop at s)) (sym long);
+      is = all ∙ ap (λ (k : ℕ). take k (drop at s)) (sym long);
       number = record { is = rw none; small = rw none (omega arith) };
     }
 
@@ -56,9 +59,8 @@ more {s} {left} {at} {width} {value} rest byte asked bytes t last =
 
 pub loop-byte-init : goal.loop-byte-init
 loop-byte-init c =
-    let some : c.args.at + c.args.width - c.args.at ≡ c.args.width = omega arith in
-    rw (c.into_iter-byte-iterator.ensures.into_iter_gives, c.rev-byte-items.ensures.source, c.iter.ensures.rest, some)
-    (start c.requires)
+    rw (c.into_iter-byte-iterator.ensures.into_iter_gives, c.rev-byte-items.ensures.source)
+    (start _ _ c.requires c.iter.ensures.rest (omega arith) (omega arith))
 
 pub overflow_mul-value : goal.overflow_mul-value
 overflow_mul-value c =
