@@ -12,11 +12,9 @@ pub fn put_unsigned(d: &mut [u8], at: usize, width: usize, v: u64)
     ensures { d.new ≡ written_at at (unsigned_bytes width v) d.old }
 {
     let mut rest = v;
-    let mut i: usize = 0;
-    while i < width {
-        d[at + i] = (rest % 256) as u8;
-        rest = rest / 256;
-        i += 1;
+    for byte in &mut d[at..at + width] {
+        *byte = (rest % 256) as u8;
+        rest /= 256;
     }
 }
 
