@@ -19,10 +19,8 @@ fn take_row(table: &[i32; 646], row: usize, n: usize, to: &mut [i16], at: usize)
     ensures { to.new ≡ put to.old at n (λ j. table_in table.now (key_of row j)) }
 {
     let from = place_at(row, 0);
-    let mut j: usize = 0;
-    while j < n {
+    for j in 0..n {
         to[at + j] = table[from + j] as i16;
-        j += 1;
     }
 }
 
@@ -32,10 +30,8 @@ fn take_rows(table: &[i32; 646], n: usize, m: usize, to: &mut [i16; 512])
     ensures { to.new
         ≡ put_rows to.old m n (λ i j. table_in table.now (key_of (3 + i) j)) }
 {
-    let mut i: usize = 0;
-    while i < m {
+    for i in 0..m {
         take_row(table, 3 + i, n, to, 32 * i);
-        i += 1;
     }
 }
 
@@ -45,11 +41,8 @@ fn take_column(table: &[i32; 646], column: usize, m: usize, to: &mut [i32; 16])
     ensures { to.new
         ≡ put to.old 0 m (λ i. table_in table.now (key_of (3 + i) column)) }
 {
-    let mut i: usize = 0;
-    while i < m {
-        let at = place_at(3 + i, column);
-        to[i] = table[at];
-        i += 1;
+    for i in 0..m {
+        to[i] = table[place_at(3 + i, column)];
     }
 }
 

@@ -15,8 +15,8 @@ unfolding put
 loop-i-preserved c =
     let table = c.args.table.now in
     let i = c.loop-i.i in
-    let fits : SFits w32 (at table c.place_at-at.result) = search rules in
+    let fits : SFits w32 (at table c.place_at.result) = search rules in
     let kept =
-    to_z-of_z w32 _ fits ∙ ap (at table) c.place_at-at.ensures
+    to_z-of_z w32 _ fits ∙ ap (at table) c.place_at.ensures
     ∙ sym (table_at table (3 + i) c.requires.column-in) in
     (omega arith, rw (add-one, zero-add) (λ k. set (c.loop-i.invariant.1 k) i (kept k)))
