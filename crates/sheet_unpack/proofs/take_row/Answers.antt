@@ -1,6 +1,6 @@
 -- A figure is put as it stands in the table: its place is that of its key, and it fits both widths.
-use Rattle.std.proofs.Common.{◌≡◌, refl, ◌<◌, ℕ, ℤ, List, arith, rules, add-one, zero-add, ap, sym, ◌∙◌, set, SFits, to_z}
-use Rattle.std.proofs.Common.{of_z, w32}
+use Rattle.std.proofs.Common.{◌≡◌, refl, ◌<◌, ℕ, ℤ, List, arith, rules, add-one, zero-add, ap}
+use Rattle.std.proofs.Common.{sym, ◌∙◌, set, SFits, to_z, of_z, w32}
 use Rattle.std.proofs.lemmas.Int.{to_z-of_z}
 use mir.Syntax.{w16}
 use Rattle.rules.specs.Notation.{at}

@@ -1,5 +1,5 @@
 -- Figures that are accepted fit the widths of their arrays.
-use Rattle.std.proofs.Common.{length-take-le, List, ℕ, ◌≡◌, ◌<◌, ℤ, arith}
+use Rattle.std.proofs.Common.{List, ℕ, ◌≡◌, ◌<◌, ℤ, length, take, length-take-le, arith, refl}
 use mir.Syntax.{w16}
 use mir.Val.{SFits}
 use lib.Signed.{le_z_yes}
@@ -30,35 +30,34 @@ module _ {P : Problem} {k : ℕ} (a : Accepted P k) where
       bnd-sfits {a = 1000} tt
       (bnd-between (≤ℤ-trans (le_z_yes tt) (≤ℤ-trans (a.least-sign j l) (a.ordered j l))) (a.most-in j l))
 
-  coefficient-fits : (i j : ℕ) → i < P.limits → j < P.materials → SFits w16 (P.coefficient i j)
-  coefficient-fits i j h l = bnd-sfits tt (a.coefficient-in i h j l)
-
--- a row of materials, of as many as were lent
+-- a row of materials goes to the first places of an array of 32
 row-asks : (z : Sizes) (t : List ℤ) → Accepted (problem_from z (table_in t)) z.steps
-    → (row k : ℕ) → row < 19 → k ≡ z.shape.materials
+    → (row : ℕ) (to : List ℤ) → row < 19 → length to ≡ 32
     → ((j : ℕ) → j < z.shape.materials → SFits w16 (table_in t (key_of row j)))
-    → RowFits t row k
+    → RowFits t row (length (take z.shape.materials to))
 unfolding problem_from
-row-asks z t a row k in_table all fits = record {
-  row_in = in_table;
-  narrow = omega (arith, a.materials-few);
-  fits = λ j l. fits j (omega arith);
-}
+row-asks z t a row to in_table room fits =
+    let all = length-take-le z.shape.materials to (omega (arith, a.materials-few)) in
+    record {
+      row_in = in_table;
+      narrow = omega (arith, a.materials-few);
+      fits = λ j l. fits j (omega arith);
+    }
 
 pub take_row-requires : goal.take_row-requires
 unfolding problem_from
 take_row-requires c =
-    row-asks c.args.sizes c.args.table.now c.requires 0 _ (omega arith) (length-take-le _ _ c.requires.materials-few) (cost-fits c.requires)
+    row-asks c.args.sizes c.args.table.now c.requires 0 _ (omega arith) refl (cost-fits c.requires)
 
 pub take_row-requires-2 : goal.take_row-requires-2
 unfolding problem_from
 take_row-requires-2 c =
-    row-asks c.args.sizes c.args.table.now c.requires 1 _ (omega arith) (length-take-le _ _ c.requires.materials-few) (least-fits c.requires)
+    row-asks c.args.sizes c.args.table.now c.requires 1 _ (omega arith) refl (least-fits c.requires)
 
 pub take_row-requires-3 : goal.take_row-requires-3
 unfolding problem_from
 take_row-requires-3 c =
-    row-asks c.args.sizes c.args.table.now c.requires 2 _ (omega arith) (length-take-le _ _ c.requires.materials-few) (most-fits c.requires)
+    row-asks c.args.sizes c.args.table.now c.requires 2 _ (omega arith) refl (most-fits c.requires)
 
 pub returns-clause-value : goal.returns-clause-value
 unfolding problem_from figures_of array
