@@ -11,10 +11,10 @@ ghost use Rattle.sheet_unpack.specs.Unpacked.{RowFits, RowsFit, ColumnFits};
 
 use rules::Sizes;
 use sheet_figures::Figures;
-use sheet_table::place_at;
+use sheet_table::{Table, place_at};
 
 // The first figures of a row, as many as there are places for, in 16 bits.
-fn take_row(table: &[i32; 646], row: usize, to: &mut [i16])
+fn take_row(table: &Table, row: usize, to: &mut [i16])
     requires { RowFits table.now row (length to.old) }
     ensures { to.new
         ≡ put to.old 0 (length to.old) (λ j. table_in table.now (key_of row j)) }
@@ -25,7 +25,7 @@ fn take_row(table: &[i32; 646], row: usize, to: &mut [i16])
 }
 
 // The rows of the limits, n figures of each, each row 32 places on.
-fn take_rows(table: &[i32; 646], n: usize, m: usize, to: &mut [i16; 512])
+fn take_rows(table: &Table, n: usize, m: usize, to: &mut [i16; 512])
     requires { RowsFit table.now n m }
     ensures { to.new
         ≡ put_rows to.old m n (λ i j. table_in table.now (key_of (3 + i) j)) }
@@ -37,7 +37,7 @@ fn take_rows(table: &[i32; 646], n: usize, m: usize, to: &mut [i16; 512])
 
 // A column of the rows of the limits, of as many as there are places for. One function for rows and columns would take
 // the width as a type with a cast of its own, and row and column of figure j from its caller: it is no plainer.
-fn take_column(table: &[i32; 646], column: usize, to: &mut [i32])
+fn take_column(table: &Table, column: usize, to: &mut [i32])
     requires { ColumnFits column (length to.old) }
     ensures { to.new
         ≡ put to.old 0 (length to.old) (λ i. table_in table.now (key_of (3 + i) column)) }
@@ -49,7 +49,7 @@ fn take_column(table: &[i32; 646], column: usize, to: &mut [i32])
 
 // The figures of a table, and its coefficients in a lent array, where the places past n and m stay as lent.
 #[tactic(auto, unfolding(rules::specs::Sheet::problem_from))]
-pub fn unpack(sizes: Sizes, table: &[i32; 646], coefficient: &mut [i16; 512]) -> Figures
+pub fn unpack(sizes: Sizes, table: &Table, coefficient: &mut [i16; 512]) -> Figures
     requires { Accepted (problem_from sizes (table_in table.now)) sizes.steps }
     ensures value { result ≡ figures_of (problem_from sizes (table_in table.now)) sizes.steps }
     ensures coefficient_after { coefficient.new
