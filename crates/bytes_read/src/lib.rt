@@ -1,22 +1,9 @@
 // Little-endian numbers out of a slice of bytes.
 #![tactic(auto)]
 
-ghost use Rattle.std.specs.Prelude.{◌≡◌, ◌/◌, ◌^◌};
+ghost use Rattle.std.specs.Prelude.{◌≡◌};
 ghost use Rattle.rules.specs.Bytes.{signed_of, signed_at};
-ghost use Rattle.bytes_read.specs.Inside.{Width, Inside, ReadUnsigned, InWidth};
-
-// Half of the numbers that 0 to 8 bytes have: those from it on are negative.
-const HALVES: [u64; 9] = [
-    0,
-    128,
-    32768,
-    8388608,
-    2147483648,
-    549755813888,
-    140737488355328,
-    36028797018963968,
-    9223372036854775808,
-];
+ghost use Rattle.bytes_read.specs.Inside.{Inside, ReadUnsigned, InWidth};
 
 // The unsigned number in the `width` bytes from place `at` on.
 fn unsigned_at(s: &[u8], at: usize, width: usize) -> u64
@@ -24,36 +11,25 @@ fn unsigned_at(s: &[u8], at: usize, width: usize) -> u64
     ensures { ReadUnsigned width s.now at result }
 {
     let mut value: u64 = 0;
-    let mut left = width;
-    while 0 < left {
-        left -= 1;
-        value = 256 * value + s[at + left] as u64;
+    for byte in s[at..at + width].iter().rev() {
+        value = 256 * value + u64::from(*byte);
     }
     value
 }
 
-// Half of 256^width.
-fn half(width: usize) -> u64
-    requires { Width width }
-    ensures { result ≡ 256 ^ width / 2 }
-{
-    HALVES[width]
-}
-
-// The number v of `width` bytes as a signed one, in two's complement.
+// The number v of `width` bytes as a signed one, in two's complement: shifted up until its sign bit is the highest of
+// 64, and, with the sign, down again.
+#[tactic(auto, using(crate::proofs::Shifted::signed_shifted))]
 fn signed_of(v: u64, width: usize) -> i64
     requires { InWidth width v }
     ensures { result ≡ signed_of width v }
 {
-    let middle = half(width);
-    if v < middle {
-        v as i64
-    } else {
-        -1 - ((middle - 1 + middle - v) as i64)
-    }
+    let unused = 64 - 8 * width;
+    (v << unused).cast_signed() >> unused
 }
 
 // The signed number in the `width` bytes from place `at` on.
+#[tactic(auto, unfolding(rules::specs::Bytes::signed_at))]
 pub fn signed_at(s: &[u8], at: usize, width: usize) -> i64
     requires { Inside width s.now at }
     ensures { result ≡ signed_at width s.now at }

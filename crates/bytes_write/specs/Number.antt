@@ -17,11 +17,6 @@ pub record SignedRoom (at w : ℕ) (v : ℤ) (d : List ℕ) : Type 0 where
   pub narrow : w ≤ 8
   pub small : mag v < 256 ^ w / 2
 
--- a signed number as 64 bits in two's complement
-unfoldable pub bits64 : ℤ → ℕ
-bits64 (pos v) = v
-bits64 (negsuc v) = 2 ^ 64 - suc v
-
 -- a number of w bytes has w bytes
 pub length-unsigned : (w v : ℕ) → length (unsigned_bytes w v) ≡ w
 unfolding unsigned_bytes

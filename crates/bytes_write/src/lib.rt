@@ -4,7 +4,7 @@
 ghost use Rattle.std.specs.Prelude.{◌≡◌};
 ghost use Rattle.rules.specs.Bytes.{unsigned_bytes, signed_bytes};
 ghost use Rattle.bytes_write.specs.Written.{written_at};
-ghost use Rattle.bytes_write.specs.Number.{Room, SignedRoom, bits64};
+ghost use Rattle.bytes_write.specs.Number.{Room, SignedRoom};
 
 // The unsigned number v in the `width` bytes of d from place `at` on.
 pub fn put_unsigned(d: &mut [u8], at: usize, width: usize, v: u64)
@@ -12,22 +12,9 @@ pub fn put_unsigned(d: &mut [u8], at: usize, width: usize, v: u64)
     ensures { d.new ≡ written_at at (unsigned_bytes width v) d.old }
 {
     let mut rest = v;
-    let mut i: usize = 0;
-    while i < width {
-        d[at + i] = (rest % 256) as u8;
-        rest = rest / 256;
-        i += 1;
-    }
-}
-
-// The 64 bits of a signed number, in two's complement.
-fn bits(v: i64) -> u64
-    ensures { result ≡ bits64 v }
-{
-    if v < 0 {
-        18446744073709551615 - ((-1 - v) as u64)
-    } else {
-        v as u64
+    for byte in &mut d[at..at + width] {
+        *byte = (rest % 256) as u8;
+        rest /= 256;
     }
 }
 
@@ -36,5 +23,5 @@ pub fn put_signed(d: &mut [u8], at: usize, width: usize, v: i64)
     requires { SignedRoom at width v d.old }
     ensures { d.new ≡ written_at at (signed_bytes width v) d.old }
 {
-    put_unsigned(d, at, width, bits(v));
+    put_unsigned(d, at, width, v.cast_unsigned());
 }

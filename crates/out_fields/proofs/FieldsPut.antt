@@ -1,19 +1,17 @@
 -- A loop that writes the first figures of an array, in w bytes each.
 use mathlib.Core.Path.{◌≡◌, refl, sym, ap, ◌∙◌}
 use mathlib.Core.List.{List, ◌++◌, append_assoc, append-nil}
-use Prim.Native.Nat.{ℕ, zero, suc, ◌+◌, ◌*◌, ◌/◌, ◌^◌, ◌≤◌, ◌<◌}
-use native.Mathlib.Nat.{mul-suc, mul-le-mul_left}
+use Prim.Native.Nat.{ℕ, zero, suc, ◌+◌, ◌*◌, ◌≤◌, ◌<◌}
 use native.Mathlib.Numerals.{add-one}
 use native.Mathlib.Omega.{arith}
 use lib.IntN.{ℤ}
 use lib.ListN.{length}
-use lib.Signed.{mag}
 use Rattle.rules.specs.Notation.{tabulate, at}
 use Rattle.rules.specs.Bytes.{signed_bytes, laid}
 use Rattle.rules.specs.Record.{fields}
 use Rattle.bytes_write.specs.Written.{written, written_at, written_none, Filled, fill}
-use Rattle.bytes_write.specs.Number.{SignedRoom, length-signed}
-use Rattle.out_fields.specs.Fields.{first_fields, length-first, FieldsRoom}
+use Rattle.bytes_write.specs.Number.{length-signed}
+use Rattle.out_fields.specs.Fields.{first_fields, length-first}
 
 -- one figure more
 one_more : (w n : ℕ) (f : ℕ → ℤ) → fields w (tabulate n f) ++ signed_bytes w (f n) ≡ fields w (tabulate (suc n) f)
@@ -32,14 +30,6 @@ pub no_field : {w count : ℕ} {figures : List ℤ} {d : List ℕ} → FieldsPut
 unfolding laid tabulate
 no_field {d = d} = record { within = omega arith; long = refl; is = written_none d }
 
--- for a proof that walks the loop by hand: the kit finds this step by itself. There is room for figure i, which fits
--- its bytes
-pub field_room : {w count i : ℕ} {figures : List ℤ} {d₀ d : List ℕ} {z : ℤ} → FieldsRoom w count figures d₀
-    → FieldsPut w count figures d₀ d i → i < count → w ≤ 8 → mag z < 256 ^ w / 2 → SignedRoom (w * i) w z d
-field_room {w} {count} {i} there t more narrow small =
-    let within : w * suc i ≤ w * count = mul-le-mul_left w more in
-    record { room = omega (arith, mul-suc w i, there.room, t.long); narrow = narrow; small = small }
-
 -- figure i is written after them
 pub field-more : {w count i : ℕ} {figures : List ℤ} {d₀ d d' : List ℕ} → FieldsPut w count figures d₀ d i → i < count
     → d' ≡ written_at (w * i) (signed_bytes w (at figures i)) d → length d' ≡ length d
@@ -51,7 +41,7 @@ field-more {w} {i = i} {figures = figures} {d₀ = d₀} {d = d} t more e l =
     let filled = fill (signed_bytes w z) before (length-signed w z) e in
     record { within = omega arith; long = l ∙ t.long; is = filled.is ∙ rw (add-one, one_more w i (at figures)) }
 
--- for a proof that walks the loop by hand: the kit finds this step by itself. After the last turn all are
+-- after the last turn all are
 pub all-fields : {w count i : ℕ} {figures : List ℤ} {d₀ d : List ℕ} → FieldsPut w count figures d₀ d i → count ≤ i
     → d ≡ written (first_fields w count figures) d₀
 all-fields {w} {count} {i} {figures} {d₀} t end =

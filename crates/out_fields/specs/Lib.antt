@@ -1,3 +1,3 @@
 -- The first figures of an array, in bytes.
---   Fields   their bytes, how many these are, and what writing them asks
+--   Fields   their bytes, and how many these are
 pub mod Fields

@@ -8,7 +8,7 @@ ghost use Rattle.bytes_write.specs.Number.{Room};
 ghost use Rattle.out_record.specs.RecordParts.{head_bytes, plan_in, RecordRoom};
 
 use bytes_write::{put_signed, put_unsigned};
-use out_fields::{put_32, put_64};
+use out_fields::put_figures;
 use out_layout::{GAP_AT, LIMITS_AT, LOW_AT, STEPS_AT, SUMS_AT, multipliers_at, totals_at};
 
 // What stands before the sums.
@@ -53,9 +53,9 @@ pub fn write_record(
     let n = head.materials;
     let m = head.limits;
     put_head(record, head);
-    put_32(&mut record[SUMS_AT..], sums, n);
+    put_figures(&mut record[SUMS_AT..], &sums[..n]);
     let after_sums = multipliers_at(n);
-    put_32(&mut record[after_sums..], multipliers, m);
+    put_figures(&mut record[after_sums..], &multipliers[..m]);
     let after_multipliers = totals_at(n, m);
-    put_64(&mut record[after_multipliers..], residual_totals, m);
+    put_figures(&mut record[after_multipliers..], &residual_totals[..m]);
 }

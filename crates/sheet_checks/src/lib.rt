@@ -11,7 +11,7 @@ use bytes_read::size_at;
 use rules::{Cause, Refusal};
 use sheet_entries::read_key;
 use sheet_header::Header;
-use sheet_table::place_at;
+use sheet_table::{Table, place_at};
 
 // Refusal 5: the first entry whose key is bad.
 pub fn check_keys(s: &[u8], header: Header) -> Result<(), Refusal>
@@ -33,7 +33,7 @@ pub fn check_keys(s: &[u8], header: Header) -> Result<(), Refusal>
 }
 
 // Refusal 7: the first material whose least amount is above its most.
-pub fn check_bounds(n: usize, table: &[i32; 646]) -> Result<(), Refusal>
+pub fn check_bounds(n: usize, table: &Table) -> Result<(), Refusal>
     requires { FewMaterials n }
     ensures { refusal_of result ≡ crossed_refusal n table.now }
 {

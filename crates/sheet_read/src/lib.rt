@@ -11,6 +11,7 @@ use sheet_checks::{check_bounds, check_keys};
 use sheet_figures::Figures;
 use sheet_header::{Header, check_header, read_header};
 use sheet_store::store_entries;
+use sheet_table::Table;
 use sheet_unpack::unpack;
 
 // The figures, or refusal 6 or 7.
@@ -19,7 +20,7 @@ fn read_figures(s: &[u8], header: Header, coefficient: &mut [i16; 512]) -> Resul
     ensures { Reads (sheet_of s.now) (figures_refusal (sheet_of s.now))
         coefficient.old coefficient.new result }
 {
-    let mut table: [i32; 646] = [0; 646];
+    let mut table: Table = [0; 646];
     store_entries(s, header, &mut table)?;
     let sizes = header.sizes;
     let shape = sizes.shape;

@@ -1,7 +1,7 @@
 // From the table of a sheet's figures by key to the arrays of the run: each figure at its place, in its width.
 #![tactic(auto)]
 
-ghost use Rattle.std.specs.Prelude.{◌≡◌, ◌+◌};
+ghost use Rattle.std.specs.Prelude.{◌≡◌, ◌+◌, length};
 ghost use Rattle.rules.specs.Sheet.{key_of, problem_from};
 ghost use Rattle.proof_magnitudes.specs.Accepted.{Accepted};
 ghost use Rattle.sheet_table.specs.Tabled.{table_in};
@@ -11,50 +11,45 @@ ghost use Rattle.sheet_unpack.specs.Unpacked.{RowFits, RowsFit, ColumnFits};
 
 use rules::Sizes;
 use sheet_figures::Figures;
-use sheet_table::place_at;
+use sheet_table::{Table, place_at};
 
-// The first n figures of a row, into an array from a place on, in 16 bits.
-fn take_row(table: &[i32; 646], row: usize, n: usize, to: &mut [i16], at: usize)
-    requires { RowFits table.now row n to.old at }
-    ensures { to.new ≡ put to.old at n (λ j. table_in table.now (key_of row j)) }
+// The first figures of a row, as many as there are places for, in 16 bits.
+fn take_row(table: &Table, row: usize, to: &mut [i16])
+    requires { RowFits table.now row (length to.old) }
+    ensures { to.new
+        ≡ put to.old 0 (length to.old) (λ j. table_in table.now (key_of row j)) }
 {
-    let from = place_at(row, 0);
-    let mut j: usize = 0;
-    while j < n {
-        to[at + j] = table[from + j] as i16;
-        j += 1;
+    for (j, place) in to.iter_mut().enumerate() {
+        *place = table[place_at(row, j)] as i16;
     }
 }
 
-// The rows of the limits, each 32 places on.
-fn take_rows(table: &[i32; 646], n: usize, m: usize, to: &mut [i16; 512])
+// The rows of the limits, n figures of each, each row 32 places on.
+fn take_rows(table: &Table, n: usize, m: usize, to: &mut [i16; 512])
     requires { RowsFit table.now n m }
     ensures { to.new
         ≡ put_rows to.old m n (λ i j. table_in table.now (key_of (3 + i) j)) }
 {
-    let mut i: usize = 0;
-    while i < m {
-        take_row(table, 3 + i, n, to, 32 * i);
-        i += 1;
+    for i in 0..m {
+        take_row(table, 3 + i, &mut to[32 * i..32 * i + n]);
     }
 }
 
-// A column of the rows of the limits.
-fn take_column(table: &[i32; 646], column: usize, m: usize, to: &mut [i32; 16])
-    requires { ColumnFits column m }
+// A column of the rows of the limits, of as many as there are places for. One function for rows and columns would take
+// the width as a type with a cast of its own, and row and column of figure j from its caller: it is no plainer.
+fn take_column(table: &Table, column: usize, to: &mut [i32])
+    requires { ColumnFits column (length to.old) }
     ensures { to.new
-        ≡ put to.old 0 m (λ i. table_in table.now (key_of (3 + i) column)) }
+        ≡ put to.old 0 (length to.old) (λ i. table_in table.now (key_of (3 + i) column)) }
 {
-    let mut i: usize = 0;
-    while i < m {
-        let at = place_at(3 + i, column);
-        to[i] = table[at];
-        i += 1;
+    for (i, place) in to.iter_mut().enumerate() {
+        *place = table[place_at(3 + i, column)];
     }
 }
 
 // The figures of a table, and its coefficients in a lent array, where the places past n and m stay as lent.
-pub fn unpack(sizes: Sizes, table: &[i32; 646], coefficient: &mut [i16; 512]) -> Figures
+#[tactic(auto, unfolding(rules::specs::Sheet::problem_from))]
+pub fn unpack(sizes: Sizes, table: &Table, coefficient: &mut [i16; 512]) -> Figures
     requires { Accepted (problem_from sizes (table_in table.now)) sizes.steps }
     ensures value { result ≡ figures_of (problem_from sizes (table_in table.now)) sizes.steps }
     ensures coefficient_after { coefficient.new
@@ -68,12 +63,12 @@ pub fn unpack(sizes: Sizes, table: &[i32; 646], coefficient: &mut [i16; 512]) ->
     let mut u: [i16; 32] = [0; 32];
     let mut b: [i32; 16] = [0; 16];
     let mut s: [i32; 16] = [0; 16];
-    take_row(table, 0, n, &mut c, 0);
-    take_row(table, 1, n, &mut l, 0);
-    take_row(table, 2, n, &mut u, 0);
+    take_row(table, 0, &mut c[..n]);
+    take_row(table, 1, &mut l[..n]);
+    take_row(table, 2, &mut u[..n]);
     take_rows(table, n, m, coefficient);
-    take_column(table, n, m, &mut b);
-    take_column(table, n + 1, m, &mut s);
+    take_column(table, n, &mut b[..m]);
+    take_column(table, n + 1, &mut s[..m]);
     Figures {
         materials: n,
         limits: m,

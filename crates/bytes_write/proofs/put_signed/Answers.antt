@@ -1,13 +1,11 @@
 -- A number of w bytes only says its rest by 256^w, and so in w bytes, w at most 8, 2^64 − s is 256^w − s.
-use Rattle.std.proofs.Common.{ℕ, zero, suc, ◌+◌, ◌-◌, ◌*◌, ◌/◌, ◌^◌, ◌≤◌, ◌<◌, ◌≡◌, refl, ap, ◌∙◌, List, arith, ℤ, pos}
-use Rattle.std.proofs.Common.{negsuc, mul-suc}
+use Rattle.std.proofs.Common.{ℕ, zero, suc, ◌+◌, ◌-◌, ◌*◌, ◌/◌, ◌^◌, ◌≤◌, ◌<◌, ◌≡◌, refl, ap, ◌∙◌, arith, ℤ, pos}
+use Rattle.std.proofs.Common.{negsuc, mul-suc, of_z, w64}
 use Rattle.std.proofs.Math.Nat.{pow-succ', mul_assoc, one-le-pow, add-mul-mod_self_left, add-mul-div_left}
 use lib.Pow.{pow-add}
 use Rattle.std.specs.Int.Signed.{mag}
 use mir.Facts.{to_z-of_z}
 use Rattle.rules.specs.Bytes.{unsigned_bytes, signed_bytes}
-use Rattle.bytes_write.specs.Written.{written_at}
-use Rattle.bytes_write.specs.Number.{bits64}
 use Rattle.bytes_write.proofs.put_signed.Goals as goal
 
 -- what 256^w is added to v any number of times has the same w bytes
@@ -31,15 +29,14 @@ wider w e s h =
     rw q (rest w (256 ^ w - s) k)
 
 -- the 64 bits of v give its bytes
-bytes : (w : ℕ) (v : ℤ) → w ≤ 8 → mag v < 256 ^ w → unsigned_bytes w (bits64 v) ≡ signed_bytes w v
-unfolding bits64 signed_bytes
+bytes : (w : ℕ) (v : ℤ) → w ≤ 8 → mag v < 256 ^ w → unsigned_bytes w (of_z w64 v) ≡ signed_bytes w v
+unfolding signed_bytes
 bytes w (pos v) l h = refl
 bytes w (negsuc v) l h = let e : w + (8 - w) ≡ 8 = omega arith in rw e at (wider w (8 - w) (suc v) h)
 
 pub returns : goal.returns
 returns c =
     let args = c.args in
-    let v : c.bits.result ≡ bits64 args.v = simp (to_z-of_z c.ranges.v) at c.bits.ensures in
-    let b = bytes args.width args.v c.requires.narrow (omega (arith, c.requires.small)) in
-    c.put_unsigned.ensures
-    ∙ ap (λ (s : List ℕ). written_at args.at s args.d.now) (ap (unsigned_bytes args.width) v ∙ b)
+    let bits : c.cast_unsigned.result ≡ of_z w64 args.v =
+    c.cast_unsigned.ensures ∙ ap (of_z w64) (to_z-of_z c.ranges.v) in
+    rw (c.put_unsigned.ensures, bits, bytes args.width args.v c.requires.narrow (omega (arith, c.requires.small)))

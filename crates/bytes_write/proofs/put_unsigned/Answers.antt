@@ -1,40 +1,39 @@
-use Rattle.std.proofs.Common.{◌≡◌, sym, ◌∙◌, ℕ, suc, ◌+◌, ◌-◌, ◌/◌, ◌%◌, ◌<◌, List, length, arith, add-one}
-use Rattle.std.proofs.Math.Nat.{add-suc, suc-add, sub_self}
-use lib.ListN.{set, length-set, take-append-drop}
-use lib.Seq.{take-suc-set, drop-set-lt, drop-drop, append_snoc}
+use Rattle.std.proofs.Common.{◌≡◌, sym, ◌∙◌, ℕ, suc, ◌+◌, ◌-◌, ◌/◌, ◌%◌, ◌<◌, ◌≤◌, List, length, set}
+use Rattle.std.proofs.Common.{arith, append_assoc, append-nil, length-set, take_all}
+use Rattle.std.proofs.lemmas.List.{take_more_set}
+use borrow.Rule.Slice.PartMut.{put_mid}
 use Rattle.rules.specs.Bytes.{unsigned_bytes}
-use Rattle.bytes_write.specs.Written.{written, written_at, written_none}
-use Rattle.bytes_write.proofs.put_unsigned.Invariants.{finished}
+use Rattle.bytes_write.specs.Written.{written, written_at}
+use Rattle.bytes_write.proofs.put_unsigned.Invariants.{Turn}
 use Rattle.bytes_write.proofs.put_unsigned.Goals as goal
 
 -- one byte more
-more : (a w : ℕ) (d : List ℕ) (rest i : ℕ) → a + i < length d → i < w
-    → finished a w (set d (a + i) (rest % 256)) (rest / 256) (i + 1) ≡ finished a w d rest i
-unfolding unsigned_bytes written written_at
-more a w d rest i h g =
-    let e : w - i ≡ suc (w - suc i) = omega arith in
-    let p : a + (i + 1) ≡ suc (a + i) = omega arith in
-    let kept = drop-set-lt (suc (a + i)) d (a + i) (rest % 256) (omega arith) in
-    rw (e, p, add-one, take-suc-set d (a + i) (rest % 256) h, kept)
-    (simp (append_snoc, drop-drop, suc-add, add-suc))
-
--- the last byte
-all : (a w : ℕ) (d : List ℕ) (rest i : ℕ) → i ≡ w → finished a w d rest i ≡ d
-unfolding unsigned_bytes written_at
-all a w d rest i e = rw e (rw (sub_self, ← written_none) (take-append-drop (a + w) d))
-
-pub loop-i-preserved : goal.loop-i-preserved
-loop-i-preserved c =
-    let l = c.loop-i in
-    let args = c.args in
+more : {w v : ℕ} {part : List ℕ} {rest i : ℕ} → Turn w v part rest i → i < w
+    → Turn w v (set part i (rest % 256)) (rest / 256) (i + 1)
+unfolding unsigned_bytes
+more {w} {v} {part} {rest} {i} t h =
+    let e : w - i ≡ suc (w - (i + 1)) = omega arith in
     record {
       within = omega arith;
-      long = simp length-set l.invariant.long;
-      whole = more args.at args.width l.d l.rest l.i (omega arith) (omega arith) ∙ l.invariant.whole;
+      long = length-set part i (rest % 256) ∙ t.long;
+      whole = rw (take_more_set part i (rest % 256) (omega (arith, t.long)), append_assoc) (rw e at t.whole);
     }
 
+-- all bytes are written
+all : {w v : ℕ} {part : List ℕ} {rest i : ℕ} → Turn w v part rest i → w ≤ i → part ≡ unsigned_bytes w v
+unfolding unsigned_bytes
+all {w} {v} {part} {rest} {i} t h =
+    let none : w - i ≡ 0 = omega arith in
+    sym (append-nil part) ∙ rw (none, take_all i part (omega (arith, t.long))) at t.whole
+
+-- and the part of d that was lent is they
+placed : (a k : ℕ) (d : List ℕ) {part bytes : List ℕ} → part ≡ bytes → k ≡ length part
+    → put_mid a k d part ≡ written_at a bytes d
+unfolding written written_at
+placed a k d is long = rw (long, is)
+
+pub loop-byte-preserved : goal.loop-byte-preserved
+loop-byte-preserved c = more c.loop-byte.invariant (omega arith)
+
 pub returns : goal.returns
-returns c =
-    let l = c.loop-i in
-    let args = c.args in
-    sym (all args.at args.width l.d l.rest l.i (omega arith)) ∙ l.invariant.whole
+returns c = placed _ _ _ (all c.loop-byte.invariant (omega arith)) (omega (arith, c.loop-byte.invariant.long))

@@ -1,5 +1,5 @@
 -- Figures that are accepted fit the widths of their arrays.
-use Rattle.std.proofs.Common.{List, ℕ, ◌≡◌, ◌<◌, ℤ, length, arith, refl}
+use Rattle.std.proofs.Common.{List, ℕ, ◌≡◌, ◌<◌, ℤ, length, take, length-take-le, arith, refl}
 use mir.Syntax.{w16}
 use mir.Val.{SFits}
 use lib.Signed.{le_z_yes}
@@ -12,6 +12,7 @@ use Rattle.proof_magnitudes.specs.Accepted.{Accepted}
 use Rattle.sheet_table.specs.Tabled.{table_in}
 use Rattle.sheet_figures.specs.Figures.{array, figures_of, coefficients_over}
 use Rattle.sheet_unpack.specs.Unpacked.{RowFits}
+use Rattle.sheet_unpack.proofs.Parts.{put-start}
 use Rattle.sheet_unpack.proofs.unpack.Goals as goal
 
 -- ---- the figures of an accepted problem that are stored in 16 bits
@@ -29,21 +30,19 @@ module _ {P : Problem} {k : ℕ} (a : Accepted P k) where
       bnd-sfits {a = 1000} tt
       (bnd-between (≤ℤ-trans (le_z_yes tt) (≤ℤ-trans (a.least-sign j l) (a.ordered j l))) (a.most-in j l))
 
-  coefficient-fits : (i j : ℕ) → i < P.limits → j < P.materials → SFits w16 (P.coefficient i j)
-  coefficient-fits i j h l = bnd-sfits tt (a.coefficient-in i h j l)
-
--- a row of materials goes to an array of 32 places
+-- a row of materials goes to the first places of an array of 32
 row-asks : (z : Sizes) (t : List ℤ) → Accepted (problem_from z (table_in t)) z.steps
     → (row : ℕ) (to : List ℤ) → row < 19 → length to ≡ 32
     → ((j : ℕ) → j < z.shape.materials → SFits w16 (table_in t (key_of row j)))
-    → RowFits t row z.shape.materials to 0
+    → RowFits t row (length (take z.shape.materials to))
 unfolding problem_from
-row-asks z t a row to in_table room fits = record {
-  row_in = in_table;
-  narrow = a.materials-few;
-  fits = fits;
-  room = omega (arith, a.materials-few);
-}
+row-asks z t a row to in_table room fits =
+    let all = length-take-le z.shape.materials to (omega (arith, a.materials-few)) in
+    record {
+      row_in = in_table;
+      narrow = omega (arith, a.materials-few);
+      fits = λ j l. fits j (omega arith);
+    }
 
 pub take_row-requires : goal.take_row-requires
 unfolding problem_from
@@ -60,26 +59,6 @@ unfolding problem_from
 take_row-requires-3 c =
     row-asks c.args.sizes c.args.table.now c.requires 2 _ (omega arith) refl (most-fits c.requires)
 
-pub take_rows-requires : goal.take_rows-requires
-unfolding problem_from
-take_rows-requires c = record {
-  few = c.requires.limits-few;
-  narrow = c.requires.materials-few;
-  fits = coefficient-fits c.requires;
-}
-
-pub take_column-requires : goal.take_column-requires
-unfolding problem_from
-take_column-requires c = record { few = c.requires.limits-few; column-in = omega (arith, c.requires.materials-few) }
-
-pub overflow_add-n : goal.overflow_add-n
-unfolding problem_from
-overflow_add-n c = record { fits = omega (arith, c.requires.materials-few) }
-
-pub take_column-requires-2 : goal.take_column-requires-2
-unfolding problem_from
-take_column-requires-2 c = record { few = c.requires.limits-few; column-in = omega (arith, c.requires.materials-few) }
-
 pub returns-clause-value : goal.returns-clause-value
 unfolding problem_from figures_of array
 returns-clause-value c =
@@ -90,11 +69,11 @@ returns-clause-value c =
       numerator = z.numerator;
       scale = z.scale;
       steps = z.steps;
-      cost = c.take_row.ensures i;
-      least = c.take_row-2.ensures i;
-      most = c.take_row-3.ensures i;
-      rhs = c.take_column.ensures i;
-      start = c.take_column-2.ensures i;
+      cost = put-start _ _ _ c.requires.materials-few c.take_row.ensures i;
+      least = put-start _ _ _ c.requires.materials-few c.take_row-2.ensures i;
+      most = put-start _ _ _ c.requires.materials-few c.take_row-3.ensures i;
+      rhs = put-start _ _ _ c.requires.limits-few c.take_column.ensures i;
+      start = put-start _ _ _ c.requires.limits-few c.take_column-2.ensures i;
     }
 
 pub returns-clause-coefficient_after : goal.returns-clause-coefficient_after

@@ -1,0 +1,3 @@
+-- What the proofs share.
+--   Parts   figures put into a part of an array that was lent
+pub mod Parts
