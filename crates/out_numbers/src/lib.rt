@@ -48,7 +48,7 @@ pub fn put_number(text: &mut Text, v: u64)
 pub fn put_integer(text: &mut Text, v: i64)
     ensures { Grows (decimal v) text.old text.new }
 {
-    if v < 0 {
+    if v.is_negative() {
         text.put_byte(b'-');
     }
     put_number(text, v.unsigned_abs());

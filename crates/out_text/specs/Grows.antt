@@ -1,6 +1,6 @@
 -- A call that is lent a text.
 use Rattle.std.specs.Prelude.{ℕ, ◌≡◌, List, [], ◌++◌}
-use Rattle.std.proofs.Common.{refl, ◌∙◌, rules}
+use Rattle.std.proofs.Common.{refl, ◌∙◌}
 use Rattle.out_text.specs.declared.Text.{Text as Lent}
 use Rattle.out_text.specs.Text.{Puts}
 use Rattle.out_text.specs.Growing.{puts_none, then, puts-as}
@@ -22,3 +22,7 @@ grows-then first second =
 -- the same bytes, named in another way
 pub grows-as : {xs ys : List ℕ} {t u : Lent} → xs ≡ ys → Grows xs t u → Grows ys t u
 grows-as e p = record { same_bytes = p.same_bytes; puts = puts-as e p.puts }
+
+-- who lent the bytes of a text finds in them what was put
+pub put-in : {bs d : List ℕ} {t u : Lent} → Grows bs t u → d ≡ u.bytes.now → Puts bs t.bytes.now t.end d u.end
+put-in p left = rw left p.puts

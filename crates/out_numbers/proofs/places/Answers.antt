@@ -1,5 +1,5 @@
 -- A number from 10^r on and below 10^(r + 1) has r + 1 digits; 0 has one.
-use Rattle.std.proofs.Common.{◌<◌, ◌^◌, ◌+◌, pow-suc, add-one, arith}
+use Rattle.std.proofs.Common.{◌≡◌, ◌<◌, ◌^◌, ◌+◌, pow-suc, add-one, arith}
 use Rattle.rules.specs.Listing.{text, decimal}
 use Rattle.out_numbers.specs.DecimalLength.{length-decimal-below}
 use Rattle.out_numbers.proofs.Digits.{more-decimal}
@@ -16,4 +16,4 @@ returns-in-Some c =
 
 pub returns-in-None : goal.returns-in-None
 unfolding decimal text
-returns-in-None c = rw c.in-None.ensures.none
+returns-in-None c = let zero : c.args.v ≡ 0 = omega (arith, c.in-None.ensures.none) in rw zero
