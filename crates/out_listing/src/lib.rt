@@ -8,19 +8,18 @@ ghost use Rattle.out_lines.specs.Lines.{Begins};
 
 use out_lines::put_refusal;
 use out_plan::put_record;
-use out_text::put_bytes;
 use rules::{PlanFigures, Refusal};
 
 // The room for a text. It takes every text.
 const ROOM: usize = 4096;
 
 // The text of an answer and its record.
-fn put_answer(d: &mut [u8], answer: Result<PlanFigures, Refusal>, record: &[u8]) -> usize
-    ensures { Begins (text_from (outcome answer) «record».now) d.old d.new result }
+fn put_answer(out: &mut [u8], answer: Result<PlanFigures, Refusal>, record: &[u8]) -> usize
+    ensures { Begins (text_from (outcome answer) «record».now) out.old out.new result }
 {
     match answer {
-        Ok(_) => put_record(d, record),
-        Err(refusal) => put_refusal(d, refusal),
+        Ok(_) => put_record(out, record),
+        Err(refusal) => put_refusal(out, refusal),
     }
 }
 
@@ -37,5 +36,7 @@ pub fn write_listing(answer: Result<PlanFigures, Refusal>, record: &[u8], out: &
     if out.len() < end {
         return 0;
     }
-    put_bytes(out, 0, &space[0..end])
+    let text = &space[..end];
+    out[..end].copy_from_slice(text);
+    end
 }

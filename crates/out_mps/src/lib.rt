@@ -10,7 +10,6 @@ ghost use Rattle.sheet_figures.specs.Figures.{problem_of};
 
 use out_lines::put_refusal;
 use out_mps_text::put_text;
-use out_text::put_bytes;
 use rules::{Cause, Refusal};
 use sheet_figures::Figures;
 use sheet_read::read_sheet;
@@ -26,11 +25,13 @@ fn write_copy(f: Figures, coefficient: &[i16; 512], text: &mut [u8]) -> Result<u
         text.old text.new result }
 {
     let mut space = [0u8; LONGEST];
-    let end = put_text(&mut space, f, coefficient);
+    let end = put_text(&mut space, &f, coefficient);
     if text.len() < end {
         return Err(Cause::Text.at(end));
     }
-    Ok(put_bytes(text, 0, &space[0..end]))
+    let whole = &space[..end];
+    text[..end].copy_from_slice(whole);
+    Ok(end)
 }
 
 // The text of figures that are read. A buffer that takes every text gets it at once.
@@ -43,7 +44,7 @@ fn write_figures(f: Figures, coefficient: &[i16; 512], text: &mut [u8]) -> Resul
     if text.len() < LONGEST {
         return write_copy(f, coefficient, text);
     }
-    Ok(put_text(text, f, coefficient))
+    Ok(put_text(text, &f, coefficient))
 }
 
 // Writes the free MPS text of a sheet: any bytes, into any buffer. It answers the length of the text, which stands at
