@@ -17,8 +17,9 @@ returns c =
     let is : refusal_text read ≡ _ = ap (λ v. refusal_text (record { number = v; place = place })) number.ensures in
     let number_put = c.put_size.ensures in
     let place-put = c.put_size-2.ensures in
-    let put = grows-then (grows-then c.put_bytes.ensures number_put.puts) place-put.puts in
+    let numbers = grows-then (grows-then c.put_bytes.ensures number_put.puts) place-put.puts in
+    let put = put-in (grows-then numbers c.put_byte.ensures) (search rules) in
     record {
-      puts = puts-as (refusal-line number.result place ∙ is) (put-in (grows-then put c.put_byte.ensures) (search rules));
+      puts = puts-as (refusal-line number.result place ∙ is) put;
       short = rw (sym is) (length-refusal-text read number_put.v_len_bound place-put.v_len_bound);
     }

@@ -6,4 +6,6 @@ use Rattle.out_lines.specs.ManyLines.{LinesGrow}
 use Rattle.out_mps_sections.proofs.put_coefficients.Given as goal
 
 abbrev pub invariant-loop-i : goal.invariant-loop-i
-invariant-loop-i l = LinesGrow (λ i. coefficient_line l.j i (element l.coefficient (32 * i + l.j))) l.m l.fn.text l.text l.i
+invariant-loop-i l =
+    LinesGrow (λ i. coefficient_line l.j i (element l.coefficient (32 * i + l.j)))
+    l.m l.fn.text l.text l.i

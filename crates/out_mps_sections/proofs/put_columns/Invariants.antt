@@ -6,4 +6,6 @@ use Rattle.out_lines.specs.ManyLines.{LinesGrow}
 use Rattle.out_mps_sections.proofs.put_columns.Given as goal
 
 abbrev pub invariant-loop-j : goal.invariant-loop-j
-invariant-loop-j l = LinesGrow (λ j. column_lines j l.f.limits (element l.f.cost j) (λ i. element l.coefficient (32 * i + j))) l.f.materials l.fn.text l.text l.j
+invariant-loop-j l =
+    LinesGrow (λ j. column_lines j l.f.limits (element l.f.cost j) (λ i. element l.coefficient (32 * i + j)))
+    l.f.materials l.fn.text l.text l.j
