@@ -25,7 +25,7 @@ fn put_answer(out: &mut [u8], answer: Result<PlanFigures, Refusal>, record: &[u8
 
 // Writes the text of an answer and its record to the start of `out`, and answers its length. A text has at most 4,096
 // bytes. Where it is longer than `out`, or the answer is a plan and the record's bytes hold no record, nothing is
-// written and the answer is 0.
+// written and the answer is 0, as C has it of `batchplan_listing` (`Listed`).
 pub fn write_listing(answer: Result<PlanFigures, Refusal>, record: &[u8], out: &mut [u8]) -> usize
     ensures listed { Listed (text_from (outcome answer) «record».now)
         out.old out.new result }

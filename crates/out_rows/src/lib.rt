@@ -1,4 +1,5 @@
-// Lines of the materials and the limits of a record, put at the end of a text.
+// Lines of the materials and the limits of a record, put at the end of a text. One function for both, which takes what
+// puts a line, is no plainer: each is a `for` of one call, and what it asks of the record differs.
 #![tactic(auto)]
 
 ghost use Rattle.std.specs.Prelude.{suc};

@@ -23,7 +23,7 @@ impl Text<'_> {
         }
     }
 
-    // A word.
+    // A word. By `copy_from_slice` it is no plainer: the part that fits has to be found, and words have few bytes.
     pub fn put_bytes(&mut self, bytes: &[u8])
         ensures { Grows bytes.now self.old self.new }
     {
