@@ -1,6 +1,6 @@
 // Sections of a free MPS text (T14.3), without the lines that name them, put at the end of a text. The figures stand in
-// arrays as `sheet_figures` has them. One function for all, which takes what puts a line, is no plainer: each is a `for`
-// of one call, and the contract says which lines.
+// arrays as `sheet_figures` has them. One function for all, which takes what puts a line, is no plainer: each is a
+// `for` of one call, and the contract says which lines.
 #![tactic(auto)]
 
 ghost use Rattle.std.specs.Prelude.{◌+◌, ◌*◌, ◌≤◌};
