@@ -18,14 +18,14 @@ use sheet_read::read_sheet;
 pub const LONGEST: usize = 9248;
 
 // The text by way of a buffer of its own, which takes every text, to a buffer that may be too short.
-fn write_copy(f: Figures, coefficient: &[i16; 512], text: &mut [u8]) -> Result<usize, Refusal>
-    requires { Accepted (problem_of f coefficient.now) f.steps }
-    ensures { Writes (mps_text (problem_of f coefficient.now))
-        (short_buffer 11 (mps_text (problem_of f coefficient.now)) (length text.old))
+fn write_copy(f: &Figures, coefficient: &[i16; 512], text: &mut [u8]) -> Result<usize, Refusal>
+    requires { Accepted (problem_of f.now coefficient.now) f.now.steps }
+    ensures { Writes (mps_text (problem_of f.now coefficient.now))
+        (short_buffer 11 (mps_text (problem_of f.now coefficient.now)) (length text.old))
         text.old text.new result }
 {
     let mut space = [0u8; LONGEST];
-    let end = put_text(&mut space, &f, coefficient);
+    let end = put_text(&mut space, f, coefficient);
     if text.len() < end {
         return Err(Cause::Text.at(end));
     }
@@ -35,16 +35,16 @@ fn write_copy(f: Figures, coefficient: &[i16; 512], text: &mut [u8]) -> Result<u
 }
 
 // The text of figures that are read. A buffer that takes every text gets it at once.
-fn write_figures(f: Figures, coefficient: &[i16; 512], text: &mut [u8]) -> Result<usize, Refusal>
-    requires { Accepted (problem_of f coefficient.now) f.steps }
-    ensures { Writes (mps_text (problem_of f coefficient.now))
-        (short_buffer 11 (mps_text (problem_of f coefficient.now)) (length text.old))
+fn write_figures(f: &Figures, coefficient: &[i16; 512], text: &mut [u8]) -> Result<usize, Refusal>
+    requires { Accepted (problem_of f.now coefficient.now) f.now.steps }
+    ensures { Writes (mps_text (problem_of f.now coefficient.now))
+        (short_buffer 11 (mps_text (problem_of f.now coefficient.now)) (length text.old))
         text.old text.new result }
 {
     if text.len() < LONGEST {
         return write_copy(f, coefficient, text);
     }
-    Ok(put_text(text, &f, coefficient))
+    Ok(put_text(text, f, coefficient))
 }
 
 // Writes the free MPS text of a sheet: any bytes, into any buffer. It answers the length of the text, which stands at
@@ -55,7 +55,7 @@ pub fn write_mps(sheet: &[u8], text: &mut [u8]) -> Result<usize, Refusal>
 {
     let mut a: [i16; 512] = [0; 512];
     let figures = read_sheet(sheet, &mut a)?;
-    write_figures(figures, &a, text)
+    write_figures(&figures, &a, text)
 }
 
 // Writes what batchmps prints of a sheet (T14.8), its text or the line of its refusal, to a buffer that takes either,

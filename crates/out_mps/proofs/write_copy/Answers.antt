@@ -16,7 +16,7 @@ returns-then-text-end c = refused-copy c.put_text-end.ensures (text-short c.requ
 inside : (c : After-put_text-end) → c.put_text-end.result ≤ length c.put_text-end.new.out
 unfolding longest_mps
 inside c =
-    let t = mps_text (problem_of c.args.f c.args.coefficient.now) in
+    let t = mps_text (problem_of c.args.f.now c.args.coefficient.now) in
     let short : length t ≤ 9248 = text-short c.requires in
     let end : c.put_text-end.result ≡ length t = ends c.put_text-end.ensures short in
     search rules
