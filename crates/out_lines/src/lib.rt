@@ -1,63 +1,60 @@
-// Lines of a listing (T8.3).
-// Each function puts something at the end of a text, place `at`, and answers the place after it.
+// Lines of a listing (T8.3), put at the end of a text or as the whole of one.
 #![tactic(auto)]
 
 ghost use Rattle.std.specs.Prelude.{◌++◌, ◌≤◌, pos, length};
 ghost use Rattle.rules.specs.Refusals.{numbered};
 ghost use Rattle.rules.specs.Listing.{text as ascii, decimal, spaced, refusal_text};
-ghost use Rattle.out_text.specs.Text.{Puts};
+ghost use Rattle.out_text.specs.Grows.{Grows};
 ghost use Rattle.out_lines.specs.Lines.{line_of, Begins};
 
 use out_numbers::{put_integer, put_number};
-use out_text::{put_byte, put_bytes};
+use out_text::Text;
 use rules::Refusal;
 
 // A space and a number.
-fn put_figure(d: &mut [u8], at: usize, v: i64) -> usize
-    ensures { Puts (ascii " " ++ decimal v) d.old at d.new result }
+fn put_figure(text: &mut Text, v: i64)
+    ensures { Grows (ascii " " ++ decimal v) text.old text.new }
 {
-    let parted = put_byte(d, at, b' ');
-    put_integer(d, parted, v)
+    text.put_byte(b' ');
+    put_integer(text, v);
 }
 
 // Numbers, each after one space.
-fn put_figures(d: &mut [u8], at: usize, figures: &[i64]) -> usize
-    ensures { Puts (spaced figures.now) d.old at d.new result }
+fn put_figures(text: &mut Text, figures: &[i64])
+    ensures { Grows (spaced figures.now) text.old text.new }
 {
-    let mut end = at;
-    let mut i: usize = 0;
-    while i < figures.len() {
-        end = put_figure(d, end, figures[i]);
-        i += 1;
+    for figure in figures {
+        put_figure(text, *figure);
     }
-    end
 }
 
 // A line: a word, its numbers, and a newline.
-pub fn put_line(d: &mut [u8], at: usize, word: &[u8], figures: &[i64]) -> usize
-    ensures { Puts (line_of word.now figures.now) d.old at d.new result }
+pub fn put_line(text: &mut Text, word: &[u8], figures: &[i64])
+    ensures { Grows (line_of word.now figures.now) text.old text.new }
 {
-    let named = put_bytes(d, at, word);
-    let filled = put_figures(d, named, figures);
-    put_byte(d, filled, b'\n')
+    text.put_bytes(word);
+    put_figures(text, figures);
+    text.put_byte(b'\n');
 }
 
 // A space and a number that is not negative. It has at most 20 digits.
-fn put_size(d: &mut [u8], at: usize, v: usize) -> usize
-    ensures puts { Puts (ascii " " ++ decimal (pos v)) d.old at d.new result }
+fn put_size(text: &mut Text, v: usize)
+    ensures puts { Grows (ascii " " ++ decimal (pos v)) text.old text.new }
     ensures v_len_bound { length (decimal (pos v)) ≤ 20 }
 {
-    let parted = put_byte(d, at, b' ');
-    put_number(d, parted, v as u64)
+    text.put_byte(b' ');
+    put_number(text, v as u64);
 }
 
-// The line of a refusal, as the whole of a text.
-pub fn put_refusal(d: &mut [u8], refusal: Refusal) -> usize
-    ensures { Begins (refusal_text (numbered refusal)) d.old d.new result }
+// The line of a refusal, as the whole of a text. It answers the text's length.
+pub fn put_refusal(out: &mut [u8], refusal: Refusal) -> usize
+    ensures { Begins (refusal_text (numbered refusal)) out.old out.new result }
 {
+    let mut line = Text { bytes: out, end: 0 };
     let cause = refusal.cause;
-    let named = put_bytes(d, 0, b"refused");
-    let numbered = put_size(d, named, usize::from(cause));
-    let placed = put_size(d, numbered, refusal.place);
-    put_byte(d, placed, b'\n')
+    line.put_bytes(b"refused");
+    put_size(&mut line, usize::from(cause));
+    put_size(&mut line, refusal.place);
+    line.put_byte(b'\n');
+    line.end
 }

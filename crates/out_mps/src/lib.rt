@@ -10,7 +10,6 @@ ghost use Rattle.sheet_figures.specs.Figures.{problem_of};
 
 use out_lines::put_refusal;
 use out_mps_text::put_text;
-use out_text::put_bytes;
 use rules::{Cause, Refusal};
 use sheet_figures::Figures;
 use sheet_read::read_sheet;
@@ -19,10 +18,10 @@ use sheet_read::read_sheet;
 pub const LONGEST: usize = 9248;
 
 // The text by way of a buffer of its own, which takes every text, to a buffer that may be too short.
-fn write_copy(f: Figures, coefficient: &[i16; 512], text: &mut [u8]) -> Result<usize, Refusal>
-    requires { Accepted (problem_of f coefficient.now) f.steps }
-    ensures { Writes (mps_text (problem_of f coefficient.now))
-        (short_buffer 11 (mps_text (problem_of f coefficient.now)) (length text.old))
+fn write_copy(f: &Figures, coefficient: &[i16; 512], text: &mut [u8]) -> Result<usize, Refusal>
+    requires { Accepted (problem_of f.now coefficient.now) f.now.steps }
+    ensures { Writes (mps_text (problem_of f.now coefficient.now))
+        (short_buffer 11 (mps_text (problem_of f.now coefficient.now)) (length text.old))
         text.old text.new result }
 {
     let mut space = [0u8; LONGEST];
@@ -30,14 +29,16 @@ fn write_copy(f: Figures, coefficient: &[i16; 512], text: &mut [u8]) -> Result<u
     if text.len() < end {
         return Err(Cause::Text.at(end));
     }
-    Ok(put_bytes(text, 0, &space[0..end]))
+    let whole = &space[..end];
+    text[..end].copy_from_slice(whole);
+    Ok(end)
 }
 
 // The text of figures that are read. A buffer that takes every text gets it at once.
-fn write_figures(f: Figures, coefficient: &[i16; 512], text: &mut [u8]) -> Result<usize, Refusal>
-    requires { Accepted (problem_of f coefficient.now) f.steps }
-    ensures { Writes (mps_text (problem_of f coefficient.now))
-        (short_buffer 11 (mps_text (problem_of f coefficient.now)) (length text.old))
+fn write_figures(f: &Figures, coefficient: &[i16; 512], text: &mut [u8]) -> Result<usize, Refusal>
+    requires { Accepted (problem_of f.now coefficient.now) f.now.steps }
+    ensures { Writes (mps_text (problem_of f.now coefficient.now))
+        (short_buffer 11 (mps_text (problem_of f.now coefficient.now)) (length text.old))
         text.old text.new result }
 {
     if text.len() < LONGEST {
@@ -54,7 +55,7 @@ pub fn write_mps(sheet: &[u8], text: &mut [u8]) -> Result<usize, Refusal>
 {
     let mut a: [i16; 512] = [0; 512];
     let figures = read_sheet(sheet, &mut a)?;
-    write_figures(figures, &a, text)
+    write_figures(&figures, &a, text)
 }
 
 // Writes what batchmps prints of a sheet (T14.8), its text or the line of its refusal, to a buffer that takes either,

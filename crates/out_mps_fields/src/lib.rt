@@ -1,28 +1,27 @@
-// Parts of a line of a free MPS text (T14.2).
-// Each function puts something at the end of a text, place `at`, and answers the place after it.
+// Parts of a line of a free MPS text (T14.2), put at the end of a text.
 #![tactic(auto)]
 
 ghost use Rattle.std.specs.Prelude.{[], ◌∷◌, ◌++◌, pos};
 ghost use Rattle.rules.specs.Listing.{decimal};
 ghost use Rattle.rules_mps.specs.Mps.{fields};
-ghost use Rattle.out_text.specs.Text.{Puts};
+ghost use Rattle.out_text.specs.Grows.{Grows};
 
 use out_numbers::{put_integer, put_number};
-use out_text::{put_byte, put_bytes};
+use out_text::Text;
 
 // What stands before the number of a name, and the number.
-pub fn put_name(d: &mut [u8], at: usize, front: &[u8], number: usize) -> usize
-    ensures { Puts (front.now ++ decimal (pos number)) d.old at d.new result }
+pub fn put_name(text: &mut Text, front: &[u8], number: usize)
+    ensures { Grows (front.now ++ decimal (pos number)) text.old text.new }
 {
-    let lettered = put_bytes(d, at, front);
-    put_number(d, lettered, number as u64)
+    text.put_bytes(front);
+    put_number(text, number as u64);
 }
 
 // The last field of a line, a figure.
-pub fn put_last(d: &mut [u8], at: usize, figure: i64) -> usize
-    ensures { Puts (fields (decimal figure ∷ [])) d.old at d.new result }
+pub fn put_last(text: &mut Text, figure: i64)
+    ensures { Grows (fields (decimal figure ∷ [])) text.old text.new }
 {
-    let parted = put_byte(d, at, b' ');
-    let filled = put_integer(d, parted, figure);
-    put_byte(d, filled, b'\n')
+    text.put_byte(b' ');
+    put_integer(text, figure);
+    text.put_byte(b'\n');
 }

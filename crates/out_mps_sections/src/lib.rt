@@ -1,116 +1,77 @@
-// Sections of a free MPS text (T14.3), without the lines that name them. The figures stand in arrays as
-// `sheet_figures` has them.
-// Each function puts lines at the end of a text, place `at`, and answers the place after them.
+// Sections of a free MPS text (T14.3), without the lines that name them, put at the end of a text. The figures stand in
+// arrays as `sheet_figures` has them. One function for all, which takes what puts a line, is no plainer: each is a
+// `for` of one call, and the contract says which lines.
 #![tactic(auto)]
 
 ghost use Rattle.std.specs.Prelude.{◌+◌, ◌*◌, ◌≤◌};
 ghost use Rattle.rules.specs.Notation.{at as element};
 ghost use Rattle.rules.specs.Listing.{lines};
 ghost use Rattle.rules_mps.specs.Mps.{row_line, coefficient_line, column_lines, rhs_line, bound_lines};
-ghost use Rattle.out_text.specs.Text.{Puts};
+ghost use Rattle.out_text.specs.Grows.{Grows};
 ghost use Rattle.out_mps_sections.specs.Sizes.{ColumnInside, SizesInside};
 
 use out_mps_lines::{put_bounds, put_coefficient, put_cost, put_rhs, put_row};
+use out_text::Text;
+use sheet_figures::Figures;
 
 // The limits in ROWS.
-pub fn put_rows(d: &mut [u8], at: usize, m: usize) -> usize
-    ensures { Puts (lines m row_line) d.old at d.new result }
+pub fn put_rows(text: &mut Text, m: usize)
+    ensures { Grows (lines m row_line) text.old text.new }
 {
-    let mut end = at;
-    let mut i: usize = 0;
-    while i < m {
-        end = put_row(d, end, i);
-        i += 1;
+    for i in 0..m {
+        put_row(text, i);
     }
-    end
 }
 
 // The coefficients of material j in COLUMNS.
-fn put_coefficients(d: &mut [u8], at: usize, j: usize, m: usize, coefficient: &[i16; 512]) -> usize
+fn put_coefficients(text: &mut Text, j: usize, m: usize, coefficient: &[i16; 512])
     requires { ColumnInside j m }
-    ensures { Puts (lines m (λ i. coefficient_line j i (element coefficient.now (32 * i + j))))
-        d.old at d.new result }
+    ensures { Grows (lines m (λ i. coefficient_line j i (element coefficient.now (32 * i + j))))
+        text.old text.new }
 {
-    let mut end = at;
-    let mut i: usize = 0;
-    while i < m {
-        end = put_coefficient(d, end, j, i, coefficient[32 * i + j] as i64);
-        i += 1;
+    for i in 0..m {
+        put_coefficient(text, j, i, coefficient[32 * i + j] as i64);
     }
-    end
 }
 
 // All of material j in COLUMNS.
-fn put_column(
-    d: &mut [u8],
-    at: usize,
-    j: usize,
-    m: usize,
-    cost: i64,
-    coefficient: &[i16; 512],
-) -> usize
-    requires { ColumnInside j m }
-    ensures { Puts (column_lines j m cost (λ i. element coefficient.now (32 * i + j)))
-        d.old at d.new result }
+fn put_column(text: &mut Text, j: usize, f: &Figures, coefficient: &[i16; 512])
+    requires { ColumnInside j f.now.limits }
+    ensures { Grows (column_lines j f.now.limits (element f.now.cost j) (λ i. element coefficient.now (32 * i + j)))
+        text.old text.new }
 {
-    let headed = put_cost(d, at, j, cost);
-    put_coefficients(d, headed, j, m, coefficient)
+    put_cost(text, j, f.cost[j] as i64);
+    put_coefficients(text, j, f.limits, coefficient);
 }
 
 // The materials in COLUMNS.
-pub fn put_columns(
-    d: &mut [u8],
-    at: usize,
-    n: usize,
-    m: usize,
-    cost: &[i16; 32],
-    coefficient: &[i16; 512],
-) -> usize
-    requires { SizesInside n m }
-    ensures { Puts (lines n (λ j. column_lines j m (element cost.now j)
-        (λ i. element coefficient.now (32 * i + j)))) d.old at d.new result }
+pub fn put_columns(text: &mut Text, f: &Figures, coefficient: &[i16; 512])
+    requires { SizesInside f.now.materials f.now.limits }
+    ensures { Grows (lines f.now.materials (λ j. column_lines j f.now.limits (element f.now.cost j)
+        (λ i. element coefficient.now (32 * i + j)))) text.old text.new }
 {
-    let mut end = at;
-    let mut j: usize = 0;
-    while j < n {
-        end = put_column(d, end, j, m, cost[j] as i64, coefficient);
-        j += 1;
+    for j in 0..f.materials {
+        put_column(text, j, f, coefficient);
     }
-    end
 }
 
 // The limits in RHS.
-pub fn put_right_hand_sides(d: &mut [u8], at: usize, m: usize, rhs: &[i32; 16]) -> usize
-    requires { m ≤ 16 }
-    ensures { Puts (lines m (λ i. rhs_line i (element rhs.now i)))
-        d.old at d.new result }
+pub fn put_right_hand_sides(text: &mut Text, f: &Figures)
+    requires { f.now.limits ≤ 16 }
+    ensures { Grows (lines f.now.limits (λ i. rhs_line i (element f.now.rhs i))) text.old text.new }
 {
-    let mut end = at;
-    let mut i: usize = 0;
-    while i < m {
-        end = put_rhs(d, end, i, rhs[i] as i64);
-        i += 1;
+    for i in 0..f.limits {
+        put_rhs(text, i, f.rhs[i] as i64);
     }
-    end
 }
 
 // The materials in BOUNDS.
-pub fn put_all_bounds<'a>(
-    d: &mut [u8],
-    at: usize,
-    n: usize,
-    least: &'a [i16; 32],
-    most: &'a [i16; 32],
-) -> usize
-    requires { n ≤ 32 }
-    ensures { Puts (lines n (λ j. bound_lines j (element least.now j) (element most.now j)))
-        d.old at d.new result }
+pub fn put_all_bounds(text: &mut Text, f: &Figures)
+    requires { f.now.materials ≤ 32 }
+    ensures { Grows (lines f.now.materials (λ j. bound_lines j (element f.now.least j) (element f.now.most j)))
+        text.old text.new }
 {
-    let mut end = at;
-    let mut j: usize = 0;
-    while j < n {
-        end = put_bounds(d, end, j, least[j] as i64, most[j] as i64);
-        j += 1;
+    for j in 0..f.materials {
+        put_bounds(text, j, f.least[j] as i64, f.most[j] as i64);
     }
-    end
 }

@@ -6,51 +6,46 @@ ghost use Rattle.rules.specs.Notation.{at as element};
 ghost use Rattle.rules_mps.specs.Mps.{mps_text};
 ghost use Rattle.sheet_figures.specs.Figures.{problem_of};
 ghost use Rattle.out_text.specs.Text.{Puts};
+ghost use Rattle.out_text.specs.Grows.{Grows};
 ghost use Rattle.out_mps_sections.specs.Sizes.{SizesInside};
 ghost use Rattle.out_mps_text.specs.Halves.{upper_text, lower_text};
 
 use out_mps_sections::{put_all_bounds, put_columns, put_right_hand_sides, put_rows};
-use out_text::put_bytes;
+use out_text::Text;
 use sheet_figures::Figures;
 
-// NAME, ROWS and COLUMNS, from place 0 on. It answers the place after them.
-fn put_upper(d: &mut [u8], n: usize, m: usize, cost: &[i16; 32], coefficient: &[i16; 512]) -> usize
-    requires { SizesInside n m }
-    ensures { Puts (upper_text n m (element cost.now)
-        (λ i j. element coefficient.now (32 * i + j))) d.old 0 d.new result }
+// NAME, ROWS and COLUMNS, at the end of a text.
+fn put_upper(text: &mut Text, f: &Figures, coefficient: &[i16; 512])
+    requires { SizesInside f.now.materials f.now.limits }
+    ensures { Grows (upper_text f.now.materials f.now.limits (element f.now.cost)
+        (λ i j. element coefficient.now (32 * i + j))) text.old text.new }
 {
-    let head = put_bytes(d, 0, b"NAME SHEET\nROWS\n N COST\n");
-    let rows = put_rows(d, head, m);
-    let named = put_bytes(d, rows, b"COLUMNS\n");
-    put_columns(d, named, n, m, cost, coefficient)
+    text.put_bytes(b"NAME SHEET\nROWS\n N COST\n");
+    put_rows(text, f.limits);
+    text.put_bytes(b"COLUMNS\n");
+    put_columns(text, f, coefficient);
 }
 
-// RHS, BOUNDS and ENDATA, at the end of the text, place `at`. It answers the place after them.
-fn put_lower<'a>(
-    d: &mut [u8],
-    at: usize,
-    n: usize,
-    m: usize,
-    rhs: &'a [i32; 16],
-    least: &'a [i16; 32],
-    most: &'a [i16; 32],
-) -> usize
-    requires { SizesInside n m }
-    ensures { Puts (lower_text n m (element rhs.now) (element least.now)
-        (element most.now)) d.old at d.new result }
+// RHS, BOUNDS and ENDATA, at the end of a text.
+fn put_lower(text: &mut Text, f: &Figures)
+    requires { SizesInside f.now.materials f.now.limits }
+    ensures { Grows (lower_text f.now.materials f.now.limits
+        (element f.now.rhs) (element f.now.least) (element f.now.most)) text.old text.new }
 {
-    let head = put_bytes(d, at, b"RHS\n");
-    let sides = put_right_hand_sides(d, head, m, rhs);
-    let named = put_bytes(d, sides, b"BOUNDS\n");
-    let bounds = put_all_bounds(d, named, n, least, most);
-    put_bytes(d, bounds, b"ENDATA\n")
+    text.put_bytes(b"RHS\n");
+    put_right_hand_sides(text, f);
+    text.put_bytes(b"BOUNDS\n");
+    put_all_bounds(text, f);
+    text.put_bytes(b"ENDATA\n");
 }
 
-// Puts the text from place 0 on, and answers the place after it.
-pub fn put_text(d: &mut [u8], f: Figures, coefficient: &[i16; 512]) -> usize
-    requires { SizesInside f.materials f.limits }
-    ensures { Puts (mps_text (problem_of f coefficient.now)) d.old 0 d.new result }
+// Puts the whole text from place 0 on, and answers its length.
+pub fn put_text(out: &mut [u8], f: &Figures, coefficient: &[i16; 512]) -> usize
+    requires { SizesInside f.now.materials f.now.limits }
+    ensures { Puts (mps_text (problem_of f.now coefficient.now)) out.old 0 out.new result }
 {
-    let upper = put_upper(d, f.materials, f.limits, &f.cost, coefficient);
-    put_lower(d, upper, f.materials, f.limits, &f.rhs, &f.least, &f.most)
+    let mut text = Text { bytes: out, end: 0 };
+    put_upper(&mut text, f, coefficient);
+    put_lower(&mut text, f);
+    text.end
 }

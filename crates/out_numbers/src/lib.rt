@@ -3,62 +3,54 @@
 
 ghost use Rattle.std.specs.Prelude.{◌≡◌, length, set, pos};
 ghost use Rattle.rules.specs.Listing.{decimal};
-ghost use Rattle.out_text.specs.Text.{Puts};
+ghost use Rattle.out_text.specs.Grows.{Grows};
 
-use out_text::put_byte;
+use out_text::Text;
 
-// How many digits v has. A power of ten grows while it is at most a tenth of v, so that ten times it fits.
+// How many digits v has.
 fn places(v: u64) -> usize
     ensures { result ≡ length (decimal (pos v)) }
 {
-    let tenth = v / 10;
-    let mut power: u64 = 1;
-    let mut count: usize = 1;
-    while power <= tenth {
-        power *= 10;
-        count += 1;
+    match v.checked_ilog10() {
+        Some(last) => last as usize + 1,
+        None => 1,
     }
-    count
 }
 
-// One byte at a place, where there is such a place.
-fn set_byte(d: &mut [u8], place: usize, byte: u8)
-    ensures { d.new ≡ set d.old place byte }
+// One byte at a place, where there is such a place. The library's `get_mut` says nothing of what the bytes end as.
+fn set_byte(bytes: &mut [u8], place: usize, byte: u8)
+    ensures { bytes.new ≡ set bytes.old place byte }
 {
-    if place < d.len() {
-        d[place] = byte;
+    if place < bytes.len() {
+        bytes[place] = byte;
     }
 }
 
 // A number in decimal. Its digits are worked out from the last one on, and go to their places. Where the text ends past
-// the bytes already, none has a place, and `at` may be too large to add to.
-pub fn put_number(d: &mut [u8], at: usize, v: u64) -> usize
-    ensures { Puts (decimal (pos v)) d.old at d.new result }
+// the bytes already, none has a place, and its end may be too large to add to.
+// By hand: the kit's `itoa`, whose digits are then copied, takes twice as long (docs/DECISIONS.md, section 6).
+pub fn put_number(text: &mut Text, v: u64)
+    ensures { Grows (decimal (pos v)) text.old text.new }
 {
-    if d.len() <= at {
-        return at;
+    let at = text.end;
+    if text.bytes.len() <= at {
+        return;
     }
     let end = at + places(v);
-    let mut place = end;
     let mut left = v;
-    while at < place {
-        place -= 1;
-        set_byte(d, place, 48 + (left % 10) as u8);
+    for place in (at..end).rev() {
+        set_byte(text.bytes, place, b'0' + (left % 10) as u8);
         left /= 10;
     }
-    if d.len() < end {
-        return d.len();
-    }
-    end
+    text.end = end.min(text.bytes.len());
 }
 
 // A number with its sign, in decimal.
-pub fn put_integer(d: &mut [u8], at: usize, v: i64) -> usize
-    ensures { Puts (decimal v) d.old at d.new result }
+pub fn put_integer(text: &mut Text, v: i64)
+    ensures { Grows (decimal v) text.old text.new }
 {
-    if v < 0 {
-        let signed = put_byte(d, at, b'-');
-        return put_number(d, signed, (-1 - v) as u64 + 1);
+    if v.is_negative() {
+        text.put_byte(b'-');
     }
-    put_number(d, at, v as u64)
+    put_number(text, v.unsigned_abs());
 }

@@ -11,29 +11,30 @@ ghost use Rattle.out_plan.specs.RecordText.{WholeRecord};
 use bytes_read::size_at;
 use out_layout::{GAP_AT, LIMITS_AT, LOW_AT, SUMS_AT, multipliers_at, record_length, totals_at};
 use out_rows::{put_limits, put_materials};
+use out_text::Text;
 use out_values::{put_steps, put_value};
 
-// The lines of a plan.
+// The lines of a plan, as the whole of a text. It answers the text's length.
 #[tactic(auto, unfolding(rules::specs::Record::record_length))]
-fn put_plan(d: &mut [u8], record: &[u8], n: usize, m: usize) -> usize
+fn put_plan(out: &mut [u8], record: &[u8], n: usize, m: usize) -> usize
     requires { WholeRecord «record».now n m }
-    ensures { Puts (plan_text (recorded «record».now)) d.old 0 d.new result }
+    ensures { Puts (plan_text (recorded «record».now)) out.old 0 out.new result }
 {
-    let multipliers = multipliers_at(n);
-    let totals = totals_at(n, m);
-    let begun = put_steps(d, 0, record);
-    let materials = put_materials(d, begun, record, n);
-    let limits = put_limits(d, materials, record, multipliers, totals, m);
-    let bounded = put_value(d, limits, b"low", record, LOW_AT);
-    put_value(d, bounded, b"gap", record, GAP_AT)
+    let mut text = Text { bytes: out, end: 0 };
+    put_steps(&mut text, record);
+    put_materials(&mut text, record, n);
+    put_limits(&mut text, record, multipliers_at(n), totals_at(n, m), m);
+    put_value(&mut text, b"low", record, LOW_AT);
+    put_value(&mut text, b"gap", record, GAP_AT);
+    text.end
 }
 
 // The lines of the plan that a record holds, as the whole of a text, or none where the bytes hold no record.
-// It answers the place after them.
-pub fn put_record(d: &mut [u8], record: &[u8]) -> usize
+// It answers the text's length.
+pub fn put_record(out: &mut [u8], record: &[u8]) -> usize
     ensures { Begins
         (cond (holds_record «record».now) (plan_text (recorded «record».now)) [])
-        d.old d.new result }
+        out.old out.new result }
 {
     if record.len() < SUMS_AT {
         return 0;
@@ -49,5 +50,5 @@ pub fn put_record(d: &mut [u8], record: &[u8]) -> usize
     if record.len() < record_length(n, m) {
         return 0;
     }
-    put_plan(d, record, n, m)
+    put_plan(out, record, n, m)
 }

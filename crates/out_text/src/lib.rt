@@ -1,31 +1,34 @@
 // A text that grows in lent bytes, byte by byte and word by word.
-// Each function puts something at the text's end, place `at`, and answers the place after it.
-// What does not fit into the bytes is left out.
 #![tactic(auto)]
 
 ghost use Rattle.std.specs.Prelude.{[], ◌∷◌};
-ghost use Rattle.out_text.specs.Text.{Puts};
+ghost use Rattle.out_text.specs.Grows.{Grows};
 
-// One byte.
-pub fn put_byte(d: &mut [u8], at: usize, byte: u8) -> usize
-    ensures { Puts (byte ∷ []) d.old at d.new result }
-{
-    if at < d.len() {
-        d[at] = byte;
-        return at + 1;
-    }
-    at
+// Lent bytes, and the place where the text in them ends. What is put at its end, and does not fit into the bytes, is
+// left out. The end may be any number, also past the bytes, where nothing fits.
+#[derive(Drop)]
+pub struct Text<'a> {
+    pub bytes: &'a mut [u8],
+    pub end: usize,
 }
 
-// A word.
-pub fn put_bytes(d: &mut [u8], at: usize, bytes: &[u8]) -> usize
-    ensures { Puts bytes.now d.old at d.new result }
-{
-    let mut end = at;
-    let mut i: usize = 0;
-    while i < bytes.len() {
-        end = put_byte(d, end, bytes[i]);
-        i += 1;
+impl Text<'_> {
+    // One byte.
+    pub fn put_byte(&mut self, byte: u8)
+        ensures { Grows (byte ∷ []) self.old self.new }
+    {
+        if self.end < self.bytes.len() {
+            self.bytes[self.end] = byte;
+            self.end += 1;
+        }
     }
-    end
+
+    // A word. By `copy_from_slice` it is no plainer: the part that fits has to be found, and words have few bytes.
+    pub fn put_bytes(&mut self, bytes: &[u8])
+        ensures { Grows bytes.now self.old self.new }
+    {
+        for byte in bytes {
+            self.put_byte(*byte);
+        }
+    }
 }

@@ -1,11 +1,8 @@
 -- Each turn puts one number after those before it.
-use Rattle.std.proofs.Common.{length, take, ◌-◌, ◌≤◌}
+use Rattle.std.proofs.Common.{take}
 use Rattle.rules.specs.Listing.{spaced}
-use Rattle.out_text.specs.Text.{Puts}
+use Rattle.out_text.specs.Grows.{Grows}
 use Rattle.out_lines.proofs.put_figures.Given as goal
 
-abbrev pub invariant-loop-i : goal.invariant-loop-i
-invariant-loop-i l = (l.i ≤ length l.figures) × Puts (spaced (take l.i l.figures)) l.initial.d l.at l.d l.end
-
-abbrev pub decreases-loop-i : goal.decreases-loop-i
-decreases-loop-i l = length l.figures - l.i
+abbrev pub invariant-loop-figure : goal.invariant-loop-figure
+invariant-loop-figure l = Grows (spaced (take l.figure-index l.figures)) l.fn.text l.text

@@ -1,9 +1,9 @@
 -- The word, the numbers and the newline, one after the other.
 use Rattle.rules.specs.Listing.{text}
-use Rattle.out_text.specs.Growing.{then}
+use Rattle.out_text.specs.Grows.{grows-then}
 use Rattle.out_lines.specs.Lines.{line_of}
 use Rattle.out_lines.proofs.put_line.Goals as goal
 
 pub returns : goal.returns
 unfolding line_of text
-returns c = then (then c.put_bytes-named.ensures c.put_figures-filled.ensures) c.put_byte.ensures
+returns c = grows-then (grows-then c.put_bytes.ensures c.put_figures.ensures) c.put_byte.ensures

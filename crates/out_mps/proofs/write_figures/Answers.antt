@@ -10,7 +10,7 @@ use Rattle.out_mps.proofs.write_figures.Goals as goal
 pub returns : goal.returns
 unfolding longest_mps
 returns c =
-    let t = mps_text (problem_of c.args.f c.args.coefficient.now) in
+    let t = mps_text (problem_of c.args.f.now c.args.coefficient.now) in
     let short = text-short c.requires in
     let (is, length-is) = whole-put c.put_text.ensures (omega (arith, short)) in
     writes-all (long-enough 11 t refl (omega (arith, short))) length-is is

@@ -4,7 +4,7 @@ use Rattle.std.proofs.Common.{w64, SFits, to_z, of_z}
 use Rattle.std.proofs.Math.Facts.{to_z-of_z}
 use Rattle.rules.specs.Listing.{text, decimal}
 use Rattle.rules_mps.specs.Mps.{material_name, fields, bound_lines}
-use Rattle.out_text.specs.Growing.{puts-as, then}
+use Rattle.out_text.specs.Grows.{grows-as, grows-then}
 use Rattle.out_mps_lines.proofs.put_bounds.Goals as goal
 
 -- the last field of a line, by the figure itself
@@ -14,6 +14,6 @@ figure-last fits = λ k. fields (decimal (to_z-of_z fits k) ∷ [])
 pub returns : goal.returns
 unfolding bound_lines fields material_name text
 returns c =
-    let low = puts-as (figure-last c.ranges.least) c.put_last-ended.ensures in
-    let high = puts-as (figure-last c.ranges.most) c.put_last.ensures in
-    then (then c.put_name-lower.ensures low) (then c.put_name-upper.ensures high)
+    let low = grows-as (figure-last c.ranges.least) c.put_last.ensures in
+    let high = grows-as (figure-last c.ranges.most) c.put_last-2.ensures in
+    grows-then (grows-then c.put_name.ensures low) (grows-then c.put_name-2.ensures high)

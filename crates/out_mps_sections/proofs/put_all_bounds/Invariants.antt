@@ -1,13 +1,10 @@
 -- Each turn puts the bounds of one material after those before it.
-use Rattle.std.proofs.Common.{◌-◌}
 use Rattle.rules.specs.Notation.{at as element}
 use Rattle.rules_mps.specs.Mps.{bound_lines}
-use Rattle.out_lines.specs.ManyLines.{LinesPut}
+use Rattle.out_lines.specs.ManyLines.{LinesGrow}
 use Rattle.out_mps_sections.proofs.put_all_bounds.Given as goal
 
 abbrev pub invariant-loop-j : goal.invariant-loop-j
 invariant-loop-j l =
-    LinesPut (λ j. bound_lines j (element l.least j) (element l.most j)) l.n l.fn.d l.fn.at l.d l.end l.j
-
-abbrev pub decreases-loop-j : goal.decreases-loop-j
-decreases-loop-j l = l.n - l.j
+    LinesGrow (λ j. bound_lines j (element l.f.least j) (element l.f.most j))
+    l.f.materials l.fn.text l.text l.j
