@@ -4,31 +4,9 @@
 // Where the input cannot be read, or the text cannot be written, it says so on standard error.
 #![tactic(auto)]
 
-use filter::{BYTES, Input, print_text, read_input};
 use out_mps::{LONGEST, write_printed};
-use std::io::Print;
-
-fn print_mps(output: &impl Print, errors: &impl Print, sheet: &[u8]) {
-    let mut text = [0u8; LONGEST];
-    let end = write_printed(sheet, &mut text);
-    print_text(
-        output,
-        errors,
-        &text,
-        end,
-        b"batchmps: cannot write to standard output\n",
-    );
-}
 
 fn main(rt: HostRuntime) {
-    let mut sheet = [0u8; BYTES];
-    let input: Input = read_input(&mut rt.stdin(), &mut sheet);
-    if input.failed {
-        let _ = rt
-            .stderr()
-            .write_all(b"batchmps: cannot read standard input\n");
-        return;
-    }
-    let filled = input.filled;
-    print_mps(&rt.stdout(), &rt.stderr(), &sheet[0..filled]);
+    let mut room = [0u8; LONGEST];
+    filter::run(&rt, &mut rt.stdin(), "batchmps", &mut room, write_printed);
 }

@@ -1,54 +1,64 @@
 // What the programs share that are filters: the reading of standard input, and the writing of a text.
 #![tactic(auto)]
 
-ghost use Rattle.std.specs.Prelude.{◌≤◌, length};
+ghost use Rattle.std.specs.Prelude.{◌≡◌, ◌≤◌, ◌⊎◌, length, IfOk, IfErr};
 
 use std::io::{Print, Read};
 
 // The room for a sheet: one byte more than the longest has (T2.6).
-pub const BYTES: usize = 3853;
+const BYTES: usize = 3853;
 
-// How many bytes were read, and whether a read failed.
+// A read failed, after so many bytes.
 #[derive(Drop)]
-pub struct Input {
+pub struct ReadFailed {
     pub filled: usize,
-    pub failed: bool,
 }
 
-// Reads until the buffer is full, the input ends or a read fails, however the input is cut.
-pub fn read_input(input: &mut impl Read, buffer: &mut [u8]) -> Input
-    ensures { result.filled ≤ length buffer.new }
+// Reads until the buffer is full, the input ends or a read fails, however the input is cut, and says how many bytes.
+pub fn read_input(input: &mut impl Read, buffer: &mut [u8]) -> Result<usize, ReadFailed>
+    ensures read { IfOk result (λ filled. filled ≤ length buffer.new) }
+    ensures failed { IfErr result (λ error. error.filled ≤ length buffer.new) }
 {
-    let mut done: usize = 0;
-    while done < buffer.len() {
-        let Ok(more) = input.read(&mut buffer[done..]) else {
-            return Input {
-                filled: done,
-                failed: true,
-            };
-        };
+    let mut filled = 0;
+    while filled < buffer.len() {
+        let more = input
+            .read(&mut buffer[filled..])
+            .map_err(|_| ReadFailed { filled })?;
         if more == 0 {
             break;
         }
-        done += more;
+        filled += more;
     }
-    Input {
-        filled: done,
-        failed: false,
+    Ok(filled)
+}
+
+// Writes a text to standard output. Where that fails, the program says so on standard error, after its name.
+fn print_text(rt: &(impl Print + Eprint), name: &str, text: &[u8]) {
+    if rt.write_all(text).is_err() {
+        let _ = eprintln!(rt; "{name}: cannot write to standard output");
     }
 }
 
-// Writes the text that ends before a place to standard output; where that fails, the complaint to standard error.
-pub fn print_text(
-    output: &impl Print,
-    errors: &impl Print,
-    text: &[u8],
-    end: usize,
-    complaint: &[u8],
+// A program that is a filter. It reads a sheet, and writes the text that `work` puts into the room and ends at the
+// place that it answers. Where the sheet cannot be read, the program says so on standard error, after its name.
+pub fn run<W: FnOnce(&[u8], &mut [u8]) -> usize>(
+    rt: &(impl Print + Eprint),
+    input: &mut impl Read,
+    name: &str,
+    room: &mut [u8],
+    work: W,
 )
-    requires { end ≤ length text.now }
+    requires callable { (sheet : _) (lent : _) → lent.now ≡ room.old → W.pre work sheet lent }
+    requires ends { (sheet : _) (lent : _) (end : _) (after : _) → lent.now ≡ room.old
+        → W.post work sheet lent end after → end ≤ length room.old }
+    ensures { (room.new ≡ room.old) ⊎ ((sheet : _) × (lent : _) × (end : _) × (after : _) × (lent.now ≡ room.old)
+        × W.post work sheet lent end after × (room.new ≡ after.now)) }
 {
-    if output.write_all(&text[0..end]).is_err() {
-        let _ = errors.write_all(complaint);
-    }
+    let mut sheet = [0u8; BYTES];
+    let Ok(filled) = read_input(input, &mut sheet) else {
+        let _ = eprintln!(rt; "{name}: cannot read standard input");
+        return;
+    };
+    let end = work(&sheet[..filled], room);
+    print_text(rt, name, &room[..end]);
 }

@@ -11,76 +11,36 @@
 // `tests/gate_mps` makes the frames, and works out with `tests/solver` what is to be printed.
 #![tactic(auto)]
 
-ghost use Rattle.std.specs.Prelude.{◌≤◌};
-
-use bytes_read::size_at;
-use filter::read_input;
-use gate_frames::{Frame, frame_at, write_line};
-use out_lines::put_refusal;
+use gate_frames::{Frame, INPUT, Refused, read_frames};
 use out_mps::write_mps;
-use out_numbers::put_number;
-use out_text::{put_byte, put_bytes};
-use rules::Refusal;
 use std::io::Print;
-
-// The room for the input.
-const INPUT: usize = 65536;
 
 // The longest buffer. The longest text has 9,248 bytes (T14.7).
 const LENT: usize = 9300;
 
-// The room for an answer. It takes less than 50 bytes.
-const ROOM: usize = 64;
-
-// The line of a text's length.
-fn show_length(line: &mut [u8], length: usize) -> usize {
-    let named = put_bytes(line, 0, b"wrote ");
-    let filled = put_number(line, named, length as u64);
-    put_byte(line, filled, b'\n')
-}
-
-// The line of an answer.
-fn show_output(line: &mut [u8], output: Result<usize, Refusal>) -> usize {
-    match output {
-        Ok(length) => show_length(line, length),
-        Err(refusal) => put_refusal(line, refusal),
-    }
-}
-
 // Writes the text of a sheet to a buffer, and prints the answer and the buffer.
 fn print_text(output: &impl Print, sheet: &[u8], buffer: &mut [u8]) {
-    let mut line = [0u8; ROOM];
-    let end = show_output(&mut line, write_mps(sheet, buffer));
-    write_line(output, &line, end);
-    write_line(output, buffer, buffer.len());
-    write_line(output, b"\n", 1);
+    let _ = match write_mps(sheet, buffer) {
+        Ok(length) => println!(output; "wrote {length}"),
+        Err(refusal) => println!(output; "{}", Refused(refusal)),
+    };
+    let _ = output.write_all(buffer);
+    let _ = output.write_all(b"\n");
 }
 
-// Lends a buffer of a length to the text of a sheet.
-fn print_sheet(output: &impl Print, sheet: &[u8], lent: usize)
-    requires { lent ≤ 9300 }
-{
-    let mut buffer = [b'.'; LENT];
-    print_text(output, sheet, &mut buffer[0..lent]);
-}
-
-fn print_frames(output: &impl Print, input: &[u8]) {
-    let mut at = 0;
-    while at < input.len() {
-        let Frame::Sheet { start, end } = frame_at(input, at, 2) else {
-            return;
-        };
-        let lent = size_at(input, end);
-        if LENT < lent {
-            return;
-        }
-        print_sheet(output, &input[start..end], lent);
-        at = end + 2;
-    }
+// Lends a buffer to the text of a sheet. There is none where the frame asks for a longer one.
+fn print_frame(output: &impl Print, frame: &Frame<2>) -> Option<()> {
+    let mut room = [b'.'; LENT];
+    let lent = usize::from(u16::from_le_bytes(*frame.after));
+    print_text(output, frame.sheet, room.get_mut(..lent)?);
+    Some(())
 }
 
 fn main(rt: HostRuntime) {
-    let mut input = [0u8; INPUT];
-    let length = read_input(&mut rt.stdin(), &mut input).filled;
-    print_frames(&rt.stdout(), &input[..length]);
+    let mut room = [0u8; INPUT];
+    for frame in read_frames(&mut rt.stdin(), &mut room) {
+        if print_frame(&rt.stdout(), &frame).is_none() {
+            return;
+        }
+    }
 }

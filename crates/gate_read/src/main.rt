@@ -10,133 +10,78 @@
 // `tests/gate_read` makes the sheets, and works out with `tests/solver` what is to be printed.
 #![tactic(auto)]
 
-use filter::read_input;
-use gate_frames::{Frame, frame_at, write_line};
-use out_lines::put_refusal;
-use out_numbers::{put_integer, put_number};
-use out_text::{put_byte, put_bytes};
-use rules::Refusal;
+use gate_frames::{Frames, INPUT, Refused, read_frames};
 use sheet_figures::Figures;
+use sheet_read::read_sheet;
+use std::fmt;
 use std::io::Print;
 
-// The room for the input.
-const INPUT: usize = 65536;
+// The figures of an array that are not 0, each after a space, under the letter of the array.
+#[derive(Drop)]
+struct Shown<'a, T>(char, &'a [T]);
 
-// The room for a line. A line with every figure takes less than 9,000 bytes.
-const ROOM: usize = 16384;
-
-// Each function from here to `show_reading` puts something at the end of the line, and answers the place after it.
-
-// A space and a size.
-fn show_size(line: &mut [u8], at: usize, size: usize) -> usize {
-    let parted = put_byte(line, at, b' ');
-    put_number(line, parted, size as u64)
-}
-
-// The place of a figure in its array. That of an a_ij, 32 i + j, is put as i and j.
-fn show_place(line: &mut [u8], at: usize, letter: u8, place: usize) -> usize {
-    if letter == b'a' {
-        let limit = put_number(line, at, (place / 32) as u64);
-        let comma = put_byte(line, limit, b',');
-        return put_number(line, comma, (place % 32) as u64);
+impl<T: Copy + Into<i64>> fmt::Display for Shown<'_, T> {
+    fn fmt<W: fmt::Write>(&self, f: &mut fmt::Formatter<W>) -> fmt::Result {
+        let Shown(letter, figures) = self;
+        for (place, figure) in figures.iter().enumerate() {
+            let value: i64 = (*figure).into();
+            if value != 0 {
+                write!(f, " {letter}{place}={value}")?;
+            }
+        }
+        Ok(())
     }
-    put_number(line, at, place as u64)
 }
 
-// A figure. One of 0 is left out.
-fn show_figure(line: &mut [u8], at: usize, letter: u8, place: usize, value: i64) -> usize {
-    if value == 0 {
-        return at;
+// The coefficients that are not 0, each after a space. That of limit i and material j stands at place 32 i + j.
+#[derive(Drop)]
+struct Coefficients<'a>(&'a [i16; 512]);
+
+impl fmt::Display for Coefficients<'_> {
+    fn fmt<W: fmt::Write>(&self, f: &mut fmt::Formatter<W>) -> fmt::Result {
+        for (place, value) in self.0.iter().enumerate() {
+            if *value != 0 {
+                write!(f, " a{},{}={value}", place / 32, place % 32)?;
+            }
+        }
+        Ok(())
     }
-    let parted = put_byte(line, at, b' ');
-    let named = put_byte(line, parted, letter);
-    let placed = show_place(line, named, letter, place);
-    let equals = put_byte(line, placed, b'=');
-    put_integer(line, equals, value)
 }
 
-// The figures of an array of 16 bits.
-fn show_figures(line: &mut [u8], at: usize, letter: u8, figures: &[i16]) -> usize {
-    let mut end = at;
-    let mut i: usize = 0;
-    while i < figures.len() {
-        end = show_figure(line, end, letter, i, figures[i] as i64);
-        i += 1;
-    }
-    end
-}
+// An accepted sheet: its sizes and its figures.
+#[derive(Drop)]
+struct Accepted<'a>(&'a Figures, &'a [i16; 512]);
 
-// The figures of an array of 32 bits: b or the starts.
-fn show_wide(line: &mut [u8], at: usize, letter: u8, figures: &[i32]) -> usize {
-    let mut end = at;
-    let mut i: usize = 0;
-    while i < figures.len() {
-        end = show_figure(line, end, letter, i, figures[i] as i64);
-        i += 1;
-    }
-    end
-}
-
-// The sizes of an accepted sheet.
-fn show_sizes(line: &mut [u8], f: Figures) -> usize {
-    let mut at = put_bytes(line, 0, b"accepted");
-    at = show_size(line, at, f.materials);
-    at = show_size(line, at, f.limits);
-    at = show_size(line, at, f.numerator);
-    at = show_size(line, at, f.scale);
-    show_size(line, at, f.steps)
-}
-
-// The figures of the materials.
-fn show_materials(line: &mut [u8], at: usize, f: Figures) -> usize {
-    let priced = show_figures(line, at, b'c', &f.cost);
-    let above = show_figures(line, priced, b'l', &f.least);
-    show_figures(line, above, b'u', &f.most)
-}
-
-// The line of an accepted sheet.
-fn show_accepted(line: &mut [u8], f: Figures, coefficient: &[i16; 512]) -> usize {
-    let sized = show_sizes(line, f);
-    let materials = show_materials(line, sized, f);
-    let coefficients = show_figures(line, materials, b'a', coefficient);
-    let limits = show_wide(line, coefficients, b'b', &f.rhs);
-    let starts = show_wide(line, limits, b's', &f.start);
-    put_byte(line, starts, b'\n')
-}
-
-// The line of a reading. That of a refused sheet is its listing's.
-fn show_reading(
-    line: &mut [u8],
-    reading: Result<Figures, Refusal>,
-    coefficient: &[i16; 512],
-) -> usize {
-    match reading {
-        Ok(figures) => show_accepted(line, figures, coefficient),
-        Err(refusal) => put_refusal(line, refusal),
+impl fmt::Display for Accepted<'_> {
+    fn fmt<W: fmt::Write>(&self, f: &mut fmt::Formatter<W>) -> fmt::Result {
+        let Accepted(read, coefficient) = self;
+        write!(f, "accepted {} {}", read.materials, read.limits)?;
+        write!(f, " {} {} {}", read.numerator, read.scale, read.steps)?;
+        let (cost, least, most) = (&read.cost, &read.least, &read.most);
+        write!(
+            f,
+            "{}{}{}",
+            Shown('c', cost),
+            Shown('l', least),
+            Shown('u', most)
+        )?;
+        write!(f, "{}", Coefficients(coefficient))?;
+        write!(f, "{}{}", Shown('b', &read.rhs), Shown('s', &read.start))
     }
 }
 
 fn print_sheet(output: &impl Print, sheet: &[u8]) {
-    let mut line = [0u8; ROOM];
     let mut coefficient: [i16; 512] = [0; 512];
-    let reading = sheet_read::read_sheet(sheet, &mut coefficient);
-    let end = show_reading(&mut line, reading, &coefficient);
-    write_line(output, &line, end);
-}
-
-fn print_sheets(output: &impl Print, input: &[u8]) {
-    let mut at = 0;
-    while at < input.len() {
-        let Frame::Sheet { start, end } = frame_at(input, at, 0) else {
-            return;
-        };
-        print_sheet(output, &input[start..end]);
-        at = end;
-    }
+    let _ = match read_sheet(sheet, &mut coefficient) {
+        Ok(figures) => println!(output; "{}", Accepted(&figures, &coefficient)),
+        Err(refusal) => println!(output; "{}", Refused(refusal)),
+    };
 }
 
 fn main(rt: HostRuntime) {
-    let mut input = [0u8; INPUT];
-    let length = read_input(&mut rt.stdin(), &mut input).filled;
-    print_sheets(&rt.stdout(), &input[..length]);
+    let mut room = [0u8; INPUT];
+    let frames: Frames<0> = read_frames(&mut rt.stdin(), &mut room);
+    for frame in frames {
+        print_sheet(&rt.stdout(), frame.sheet);
+    }
 }

@@ -8,17 +8,10 @@
 // `tests/gate_texts` makes the frames, and works out what is to be printed.
 #![tactic(auto)]
 
-ghost use Rattle.bytes_read.specs.Inside.{Inside};
-
-use bytes_read::size_at;
-use filter::read_input;
-use gate_frames::{Frame, frame_at, write_line};
+use gate_frames::{INPUT, read_frames, write_line};
 use out_listing::write_listing;
 use rules::{Cause, PlanFigures, Refusal};
 use std::io::Print;
-
-// The room for the input.
-const INPUT: usize = 65536;
 
 // The room for a text. It takes every text (T8.4).
 const ROOM: usize = 4096;
@@ -36,29 +29,10 @@ fn print_texts(output: &impl Print, record: &[u8], place: usize) {
     print_text(output, Err(Cause::Buffer.at(place)), record);
 }
 
-// The unsigned number in the 8 bytes from place `at` on: four numbers of 2 bytes.
-fn place_at(input: &[u8], at: usize) -> usize
-    requires { Inside 8 input.now at }
-{
-    let lower = size_at(input, at) + 65536 * size_at(input, at + 2);
-    let upper = size_at(input, at + 4) + 65536 * size_at(input, at + 6);
-    lower + 4294967296 * upper
-}
-
-fn print_frames(output: &impl Print, input: &[u8]) {
-    let mut at = 0;
-    while at < input.len() {
-        let Frame::Sheet { start, end } = frame_at(input, at, 8) else {
-            return;
-        };
-        let place = place_at(input, end);
-        print_texts(output, &input[start..end], place);
-        at = end + 8;
-    }
-}
-
 fn main(rt: HostRuntime) {
-    let mut input = [0u8; INPUT];
-    let length = read_input(&mut rt.stdin(), &mut input).filled;
-    print_frames(&rt.stdout(), &input[..length]);
+    let mut room = [0u8; INPUT];
+    for frame in read_frames(&mut rt.stdin(), &mut room) {
+        let place = usize::from_le_bytes(*frame.after);
+        print_texts(&rt.stdout(), frame.sheet, place);
+    }
 }

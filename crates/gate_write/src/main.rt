@@ -16,19 +16,14 @@
 // `tests/gate_write` makes the cases, and works out with `tests/solver` what is to be printed.
 #![tactic(auto)]
 
-ghost use Rattle.std.specs.Prelude.{◌+◌, ◌*◌, ◌≤◌, length};
+ghost use Rattle.std.specs.Prelude.{◌+◌, ◌≤◌};
 
-use bytes_read::{signed_32, size_at};
-use filter::read_input;
-use gate_frames::{Frame, frame_at, write_line};
-use out_numbers::put_number;
-use out_text::{put_byte, put_bytes};
+use bytes_read::size_at;
+use gate_frames::{Frames, Hex, INPUT, Refused, fill, read_frames};
 use rules::{Refusal, Shape, Sizes};
 use rules_arrays::Arrays;
+use sheet_write::write_sheet;
 use std::io::Print;
-
-// The room for the input.
-const INPUT: usize = 65536;
 
 // How many bytes of a case stand before its figures.
 const HEAD: usize = 34;
@@ -39,175 +34,84 @@ const FIGURES: usize = 1024;
 // The longest buffer. The longest sheet has 3,852 bytes (T2.6).
 const LENT: usize = 4096;
 
-// The room for a line. A line takes less than 8,300 bytes.
-const ROOM: usize = 8448;
-
-// Each function from here to `show_hex` puts something at the end of the line, and answers the place after it.
-
-// The length of a sheet.
-fn show_length(line: &mut [u8], length: usize) -> usize {
-    let named = put_bytes(line, 0, b"wrote ");
-    put_number(line, named, length as u64)
-}
-
-// A refusal.
-fn show_refused(line: &mut [u8], refusal: Refusal) -> usize {
-    let cause = refusal.cause;
-    let named = put_bytes(line, 0, b"refused ");
-    let numbered = put_number(line, named, usize::from(cause) as u64);
-    let parted = put_byte(line, numbered, b' ');
-    put_number(line, parted, refusal.place as u64)
-}
-
-// What writing gives.
-fn show_output(line: &mut [u8], output: Result<usize, Refusal>) -> usize {
-    match output {
-        Ok(length) => show_length(line, length),
-        Err(refusal) => show_refused(line, refusal),
-    }
-}
-
-// A byte in two hexadecimal digits.
-fn show_hex_byte(line: &mut [u8], at: usize, byte: u8) -> usize {
-    let mut digits = [0u8; 16];
-    let count = io::hex(byte as u64, 2, &mut digits);
-    put_bytes(line, at, &digits[..count])
-}
-
-// Bytes in hexadecimal, one after the other.
-fn show_hex(line: &mut [u8], at: usize, bytes: &[u8]) -> usize {
-    let mut end = at;
-    let mut i: usize = 0;
-    while i < bytes.len() {
-        end = show_hex_byte(line, end, bytes[i]);
-        i += 1;
-    }
-    end
-}
-
-// What the buffer holds before a case.
-fn fill(buffer: &mut [u8]) {
-    let mut i = 0;
-    while i < buffer.len() {
-        buffer[i] = ((7 * (i % 256) + 3) % 256) as u8;
-        i += 1;
-    }
-}
-
 // Prints the line of a case.
 fn print_output(output: &impl Print, answer: Result<usize, Refusal>, buffer: &[u8]) {
-    let mut line = [0u8; ROOM];
-    let answered = show_output(&mut line, answer);
-    let parted = put_byte(&mut line, answered, b' ');
-    let filled = show_hex(&mut line, parted, buffer);
-    let end = put_byte(&mut line, filled, b'\n');
-    write_line(output, &line, end);
+    let left = Hex(buffer);
+    let _ = match answer {
+        Ok(length) => println!(output; "wrote {length} {left}"),
+        Err(refusal) => println!(output; "{} {left}", Refused(refusal)),
+    };
 }
 
 // The unsigned number of 4 bytes at a place.
-fn number_at(case: &[u8], at: usize) -> usize
-    requires { at + 4 ≤ length case.now }
+fn number_at(head: &[u8; HEAD], at: usize) -> usize
+    requires { at + 4 ≤ 34 }
 {
-    size_at(case, at) + 65536 * size_at(case, at + 2)
+    size_at(head, at) + 65536 * size_at(head, at + 2)
 }
 
 // The sizes of a case.
-fn sizes_of(case: &[u8]) -> Sizes
-    requires { 34 ≤ length case.now }
-{
-    let shape = Shape {
-        materials: number_at(case, 0),
-        limits: number_at(case, 4),
-    };
+fn sizes_of(head: &[u8; HEAD]) -> Sizes {
     Sizes {
-        shape: shape,
-        numerator: number_at(case, 8),
-        scale: number_at(case, 12),
-        steps: number_at(case, 16),
+        shape: Shape {
+            materials: number_at(head, 0),
+            limits: number_at(head, 4),
+        },
+        numerator: number_at(head, 8),
+        scale: number_at(head, 12),
+        steps: number_at(head, 16),
     }
 }
 
-// The figures of a case, as many as there is room for.
-fn take_figures(case: &[u8], figures: &mut [i32])
-    requires { 34 + 4 * length figures.old ≤ length case.now }
-{
-    let mut i: usize = 0;
-    while i < figures.len() {
-        figures[i] = signed_32(case, HEAD + 4 * i);
-        i += 1;
-    }
-}
+// Each function from here to `print_case` answers nothing where the case is not a sound one.
 
-// Each function from here to `print_case` answers whether the case is a sound one. One that is not has no line.
-
-// Writes the sheet of a case into a buffer, and prints its line. The case must have the figures that it says it has.
-fn print_written(output: &impl Print, case: &[u8], figures: &[i32], buffer: &mut [u8]) -> bool
-    requires { 34 ≤ length case.now }
-{
-    let costs = size_at(case, 20);
-    let leasts = costs + size_at(case, 22);
-    let mosts = leasts + size_at(case, 24);
-    let factors = mosts + size_at(case, 26);
-    let limits = factors + size_at(case, 28);
-    let starts = limits + size_at(case, 30);
-    if figures.len() < starts {
-        return false;
-    }
-    fill(buffer);
+// Writes the sheet of a case into a buffer. The case must have the figures that it says it has.
+fn write_case(head: &[u8; HEAD], figures: &[i32], buffer: &mut [u8]) -> Option<Result<usize, Refusal>> {
+    let (costs, figures) = figures.split_at_checked(size_at(head, 20))?;
+    let (least_amounts, figures) = figures.split_at_checked(size_at(head, 22))?;
+    let (most_amounts, figures) = figures.split_at_checked(size_at(head, 24))?;
+    let (coefficients, figures) = figures.split_at_checked(size_at(head, 26))?;
+    let (right_hand_sides, figures) = figures.split_at_checked(size_at(head, 28))?;
+    let starts = figures.get(..size_at(head, 30))?;
     let arrays = Arrays {
-        costs: &figures[0..costs],
-        least_amounts: &figures[costs..leasts],
-        most_amounts: &figures[leasts..mosts],
-        coefficients: &figures[mosts..factors],
-        right_hand_sides: &figures[factors..limits],
-        starts: &figures[limits..starts],
+        costs,
+        least_amounts,
+        most_amounts,
+        coefficients,
+        right_hand_sides,
+        starts,
     };
-    let answer = sheet_write::write_sheet(sizes_of(case), &arrays, buffer);
+    Some(write_sheet(sizes_of(head), &arrays, buffer))
+}
+
+// Lends a case the buffer that it asks for, and prints its line.
+fn print_written(output: &impl Print, head: &[u8; HEAD], figures: &[i32]) -> Option<()> {
+    let mut room = [0u8; LENT];
+    let buffer = room.get_mut(..size_at(head, 32))?;
+    fill(buffer);
+    let answer = write_case(head, figures, buffer)?;
     print_output(output, answer, buffer);
-    true
+    Some(())
 }
 
-// Takes the figures of a case, and lends it a buffer of the length that it asks for.
-fn print_lent(output: &impl Print, case: &[u8], figures: &mut [i32]) -> bool
-    requires { 34 + 4 * length figures.old ≤ length case.now }
-{
-    let lent = size_at(case, 32);
-    if LENT < lent {
-        return false;
+// The figures of a case are all that stands after its head.
+fn print_case(output: &impl Print, case: &[u8]) -> Option<()> {
+    let (head, rest) = case.split_first_chunk::<HEAD>()?;
+    let (numbers, _) = rest.as_chunks::<4>();
+    let mut room = [0i32; FIGURES];
+    let figures = room.get_mut(..numbers.len())?;
+    for (figure, number) in figures.iter_mut().zip(numbers) {
+        *figure = i32::from_le_bytes(*number);
     }
-    take_figures(case, figures);
-    let mut buffer = [0u8; LENT];
-    print_written(output, case, figures, &mut buffer[0..lent])
-}
-
-// Lends an array to the figures of a case, which are all that stands after its head.
-fn print_case(output: &impl Print, case: &[u8]) -> bool {
-    if case.len() < HEAD {
-        return false;
-    }
-    let count = (case.len() - HEAD) / 4;
-    if FIGURES < count {
-        return false;
-    }
-    let mut figures = [0i32; FIGURES];
-    print_lent(output, case, &mut figures[0..count])
-}
-
-fn print_frames(output: &impl Print, input: &[u8]) {
-    let mut at = 0;
-    while at < input.len() {
-        let Frame::Sheet { start, end } = frame_at(input, at, 0) else {
-            return;
-        };
-        if !print_case(output, &input[start..end]) {
-            return;
-        }
-        at = end;
-    }
+    print_written(output, head, figures)
 }
 
 fn main(rt: HostRuntime) {
-    let mut input = [0u8; INPUT];
-    let length = read_input(&mut rt.stdin(), &mut input).filled;
-    print_frames(&rt.stdout(), &input[..length]);
+    let mut room = [0u8; INPUT];
+    let frames: Frames<0> = read_frames(&mut rt.stdin(), &mut room);
+    for frame in frames {
+        if print_case(&rt.stdout(), frame.sheet).is_none() {
+            return;
+        }
+    }
 }
