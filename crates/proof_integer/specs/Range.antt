@@ -115,7 +115,8 @@ sfits-between {w} {lo} {hi} {z} l h p q = record {
     mags (pos a) (negsuc n) hi H l h p q = absurd p
     mags (negsuc a) (negsuc n) hi H l h p q = omega (arith, leb→le n a p)
 
--- ---- a number below 0, in two's complement: −1 − z is `mag z`, which is n for −(n + 1)
+-- ---- two's complement
+-- for a proof about the bits of a number below 0: −1 − z is `mag z`, which is n for −(n + 1)
 pub mag-below-zero : (z : ℤ) → lt_z z (pos 0) ≡ true → negsuc 0 -ℤ z ≡ pos (mag z)
 mag-below-zero (pos n) h = let g : n < 0 = ltb-true n 0 h in absurd (omega arith)
 mag-below-zero (negsuc n) h = simp (le-ltb (suc n) 1 (omega arith)) (ap pos (omega arith))

@@ -48,10 +48,6 @@ started_in n m p D c l u a b s = record {
   starting_multiplier = at s;
 }
 
--- and with none: a step looks at no start
-abbrev pub problem_in : (n m p D : ℕ) → (c l u a b : List ℤ) → Problem
-problem_in n m p D c l u a b = started_in n m p D c l u a b []
-
 -- the problem whose figures these are
 abbrev pub problem_of : Figures → List ℤ → Problem
 problem_of F a =

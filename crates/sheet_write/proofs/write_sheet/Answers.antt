@@ -81,28 +81,36 @@ count_entries-e-requires c = short c.args.sizes c.args.arrays.now c.args.sheet.n
 pub overflow_mul-wanted : goal.overflow_mul-wanted
 unfolding refusal_of
 overflow_mul-wanted c = record {
-  fits = omega (arith, few c.args.sizes c.args.arrays.now c.args.sheet.now (cc c.in_ok-check_arrays.ensures) _ c.count_entries-e.ensures);
+  fits = omega (
+    arith,
+    few c.args.sizes c.args.arrays.now c.args.sheet.now (cc c.in_ok-check_arrays.ensures) _ c.count_entries-e.ensures,
+  );
 }
 
 pub overflow_add-wanted : goal.overflow_add-wanted
 unfolding refusal_of
 overflow_add-wanted c = record {
-  fits = omega (arith, few c.args.sizes c.args.arrays.now c.args.sheet.now (cc c.in_ok-check_arrays.ensures) _ c.count_entries-e.ensures);
+  fits = omega (
+    arith,
+    few c.args.sizes c.args.arrays.now c.args.sheet.now (cc c.in_ok-check_arrays.ensures) _ c.count_entries-e.ensures,
+  );
 }
 
 pub returns-then-sheet-wanted : goal.returns-then-sheet-wanted
 unfolding refusal_of
 returns-then-sheet-wanted c =
-    lacking c.args.sizes c.args.arrays.now c.args.sheet.now (cc c.in_ok-check_arrays.ensures) _ c.count_entries-e.ensures
-    c.at.ensures c.if-sheet-wanted.true
+    lacking c.args.sizes c.args.arrays.now c.args.sheet.now (cc c.in_ok-check_arrays.ensures) _
+    c.count_entries-e.ensures c.at.ensures c.if-sheet-wanted.true
 
 pub put_sheet-requires : goal.put_sheet-requires
 unfolding refusal_of
 put_sheet-requires c =
-    sheet-ready c.args.sizes c.args.arrays.now c.args.sheet.now (cc c.in_ok-check_arrays.ensures) _ c.count_entries-e.ensures c.if-sheet-wanted.false
+    sheet-ready c.args.sizes c.args.arrays.now c.args.sheet.now (cc c.in_ok-check_arrays.ensures) _
+    c.count_entries-e.ensures c.if-sheet-wanted.false
 
 pub returns : goal.returns
 unfolding refusal_of
 returns c =
-    wrote c.args.sizes c.args.arrays.now c.args.sheet.now (cc c.in_ok-check_arrays.ensures) _ c.count_entries-e.ensures c.if-sheet-wanted.false
+    wrote c.args.sizes c.args.arrays.now c.args.sheet.now (cc c.in_ok-check_arrays.ensures) _
+    c.count_entries-e.ensures c.if-sheet-wanted.false
     c.put_sheet.ensures
