@@ -1,5 +1,5 @@
 -- The arrays of a problem with k steps, and the problem that stands in arrays.
-use Rattle.std.specs.Prelude.{◌≡◌, refl, List, [], ℕ, zero, suc, ◌+◌, ◌*◌, ◌<◌, ◌≤◌, ℤ, pos, length, replicate}
+use Rattle.std.specs.Prelude.{◌≡◌, refl, List, ℕ, zero, suc, ◌+◌, ◌*◌, ◌<◌, ◌≤◌, ℤ, pos, length, replicate}
 use Rattle.std.proofs.Common.{sym, ap, ◌∙◌, zero-add, add-one, arith}
 use Rattle.std.proofs.lemmas.List.{length-replicate}
 use Rattle.rules.specs.Notation.{tabulate, at}
