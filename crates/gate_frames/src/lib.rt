@@ -21,9 +21,9 @@ use std::ops::Range;
 // The room for the input.
 pub const INPUT: usize = 65536;
 
-// Where the sheet lies of the frame that begins at a place of the input, with `after` bytes after the sheet. A frame
-// that is cut short is none.
-fn frame_at(input: &[u8], at: usize, after: usize) -> Option<Range<usize>>
+// for a program that finds frames by their places: where the sheet lies of the frame that begins at a place of the
+// input, with `after` bytes after the sheet. A frame that is cut short is none.
+pub fn frame_at(input: &[u8], at: usize, after: usize) -> Option<Range<usize>>
     ensures found { result ≡ frame_at input.now at after }
     ensures inside { IfSome result (λ sheet. (sheet.start ≤ sheet.end) × (sheet.end + after ≤ length input.now)) }
     ensures passed { IfSome result (λ sheet. at < sheet.end) }
