@@ -23,7 +23,16 @@ pub fn close(
         (closed_in (problem_of f.now coefficient.now) count)
         (look_refusal (problem_of f.now coefficient.now) count) result }
 {
-    let look = w.look(f, coefficient, greatest, count)?;
-    let low = w.low.max(look.value);
+    let mut amounts = [0; 32];
+    let mut residuals = [0; 16];
+    let value = w.look(
+        f,
+        coefficient,
+        greatest,
+        count,
+        &mut amounts,
+        &mut residuals,
+    )?;
+    let low = w.low.max(value);
     Ok(State { low, ..w })
 }

@@ -1,24 +1,38 @@
--- What a look after t steps hands back: the look of the run, or refusal 9 with the state as it was.
-use Rattle.std.specs.Prelude.{◌≡◌, true, false, ℕ, Result, Ok, Err}
+-- What a look after t steps asks, and what it hands back: the look of the run, or refusal 9 with the state as it was.
+use Rattle.std.specs.Prelude.{◌≡◌, true, false, List, ℕ, ℤ, pos, replicate, Result, Ok, Err}
 use Rattle.rules.specs.declared.Cause.TheVariants.{Infeasible}
 use Rattle.rules.specs.Problem.{Problem}
 use Rattle.rules.specs.Step.{infeasible}
 use Rattle.rules.specs.Run.{look_after}
-use Rattle.run_look.specs.Given.{LookIn}
-use Rattle.run_step.specs.declared.Look.{Look}
+use Rattle.sheet_figures.specs.declared.Figures.{Figures}
+use Rattle.sheet_figures.specs.Padded.{padded}
 use Rattle.run_step.specs.declared.State.{State}
 use Rattle.run_step.specs.declared.Stop.{Stop}
+use Rattle.run_step.specs.Reached.{LookReady}
+
+-- the state after t steps, and two arrays of zeros
+pub record LookAsks (f : Figures) (a : List ℤ) (greatest : ℤ) (t : ℕ) (w : State) (amounts residuals : List ℤ)
+    : Type 0 where
+  pub ready : LookReady f a greatest t w
+  pub no-amounts : amounts ≡ replicate 32 (pos 0)
+  pub no-residuals : residuals ≡ replicate 16 (pos 0)
 
 -- the dual value is no larger than D times the greatest cost
-pub record Feasible (P : Problem) (t : ℕ) (look : Look) : Type 0 where
+pub record Feasible (P : Problem) (t : ℕ) (value : ℤ) : Type 0 where
   pub test : infeasible P (look_after P t) ≡ false
-  pub is : LookIn (look_after P t) look.amounts look.residuals look.value
+  pub is : value ≡ (look_after P t).dual_value
 
 -- it is larger
-pub record Infeasible9 (P : Problem) (t : ℕ) (w : State) (stop : Stop) : Type 0 where
+pub record TooLarge (P : Problem) (t : ℕ) (w : State) (stop : Stop) : Type 0 where
   pub test : infeasible P (look_after P t) ≡ true
   pub is : stop ≡ record { refusal = record { place = t; cause = Infeasible }; state = w }
 
-abbrev pub Looked : Problem → ℕ → State → Result Look Stop → Type 0
-Looked P t w (Ok look) = Feasible P t look
-Looked P t w (Err stop) = Infeasible9 P t w stop
+abbrev pub ValueOrStop : Problem → ℕ → State → Result ℤ Stop → Type 0
+ValueOrStop P t w (Ok value) = Feasible P t value
+ValueOrStop P t w (Err stop) = TooLarge P t w stop
+
+-- the amounts and the residuals in arrays of 32 and 16 places, and what comes back
+pub record Looked (P : Problem) (t : ℕ) (w : State) (amounts residuals : List ℤ) (r : Result ℤ Stop) : Type 0 where
+  pub amounts-are : amounts ≡ padded 32 (look_after P t).amounts
+  pub residuals-are : residuals ≡ padded 16 (look_after P t).residuals
+  pub back : ValueOrStop P t w r

@@ -6,7 +6,7 @@ ghost use Rattle.rules.specs.Answers.{refusal_at};
 ghost use Rattle.sheet_figures.specs.Figures.{problem_of};
 ghost use Rattle.run_step.specs.States.{reached_in, HandedBack};
 ghost use Rattle.run_step.specs.Reached.{LookReady};
-ghost use Rattle.run_step.specs.Looked.{Looked};
+ghost use Rattle.run_step.specs.Looked.{LookAsks, Looked};
 
 use rules::{Cause, Refusal};
 use run_look::look_at;
@@ -43,17 +43,6 @@ impl From<Stop> for Refusal {
     }
 }
 
-// for `run_close`, which has it from `look`: what a look at a state's multipliers works out.
-#[derive(Clone, Copy)]
-pub struct Look {
-    // x_j at place j
-    pub amounts: [i16; 32],
-    // g_i at place i
-    pub residuals: [i32; 16],
-    // the dual value
-    pub value: i64,
-}
-
 impl State {
     // A stop at step t, which hands the state back as it was.
     fn stop(self, t: usize, cause: Cause) -> Stop
@@ -65,34 +54,26 @@ impl State {
         }
     }
 
-    // The look at the multipliers after t steps, with D times the greatest cost, or its refusal 9.
+    // The look at the multipliers after t steps, with D times the greatest cost: the dual value or refusal 9. The
+    // amounts and the residuals go into two lent arrays of zeros. A struct of all three by value was tried: it is
+    // copied right after its single stores, which makes each step some 50 ns slower.
     pub fn look(
         &self,
         f: &Figures,
         coefficient: &[i16; 512],
         greatest: i64,
         t: usize,
-    ) -> Result<Look, Stop>
-        requires { LookReady f.now coefficient.now greatest t self.now }
-        ensures { Looked (problem_of f.now coefficient.now) t self.now result }
+        amounts: &mut [i16; 32],
+        residuals: &mut [i32; 16],
+    ) -> Result<i64, Stop>
+        requires { LookAsks f.now coefficient.now greatest t self.now amounts.old residuals.old }
+        ensures { Looked (problem_of f.now coefficient.now) t self.now amounts.new residuals.new result }
     {
-        let mut amounts = [0; 32];
-        let mut residuals = [0; 16];
-        let value = look_at(
-            f,
-            coefficient,
-            &self.multipliers,
-            &mut amounts,
-            &mut residuals,
-        );
+        let value = look_at(f, coefficient, &self.multipliers, amounts, residuals);
         if greatest < value {
             return Err(self.stop(t, Cause::Infeasible));
         }
-        Ok(Look {
-            amounts,
-            residuals,
-            value,
-        })
+        Ok(value)
     }
 
     // Step t, with D times the greatest cost: the look at the multipliers and its refusal 9, the move and its
@@ -109,14 +90,16 @@ impl State {
             (reached_in (problem_of f.now coefficient.now) (suc t))
             (refusal_at (problem_of f.now coefficient.now) t) result }
     {
-        let look = self.look(f, coefficient, greatest, t)?;
+        let mut amounts = [0; 32];
+        let mut residuals = [0; 16];
+        let value = self.look(f, coefficient, greatest, t, &mut amounts, &mut residuals)?;
         let mut next = self;
-        if move_multipliers(f, &mut next.multipliers, &look.residuals) {
+        if move_multipliers(f, &mut next.multipliers, &residuals) {
             return Err(self.stop(t, Cause::Diverged));
         }
-        add(f.materials, &mut next.sums, &look.amounts);
-        add(f.limits, &mut next.totals, &look.residuals);
-        next.low = self.low.max(look.value);
+        add(f.materials, &mut next.sums, &amounts);
+        add(f.limits, &mut next.totals, &residuals);
+        next.low = self.low.max(value);
         Ok(next)
     }
 }

@@ -1,5 +1,5 @@
 -- The look is that of the run, and what comes back is the state with low, or refusal 9 with the state as it was.
-use Rattle.std.proofs.Common.{◌≡◌, ℕ, List, ℤ, ◌∙◌, rules, SFits, to_z, of_z, to_z-of_z}
+use Rattle.std.proofs.Common.{◌≡◌, ℕ, List, ℤ, refl, ◌∙◌, rules, SFits, to_z, of_z, to_z-of_z}
 use Rattle.std.proofs.lemmas.Result.{err_from_is_err_and}
 use Rattle.std.specs.Int.{w64, int_max}
 use Rattle.rules.specs.Notation.{maxℤ}
@@ -30,25 +30,34 @@ module _ {f : Figures} {a : List ℤ} {greatest : ℤ} {count : ℕ} {w : State}
       ∙ (λ k. maxℤ (to_z-of_z low_fits k) (to_z-of_z v-fits k))
       ∙ low-of-run ready look
 
-pub returns-in_err-look : goal.returns-in_err-look
+pub look-requires : goal.look-requires
+look-requires c =
+    record { ready = rw (to_z-of_z c.ranges.greatest) c.requires; no-amounts = refl; no-residuals = refl }
+
+pub returns-in_err-value : goal.returns-in_err-value
 unfolding numbered number_of
-returns-in_err-look c =
+returns-in_err-value c =
     let P : Problem = problem_of c.args.f.now c.args.coefficient.now in
-    let h = c.in_err-look.ensures in
+    let back = c.in_err-value.ensures.back in
     let p = err_from_is_err_and c.from_residual.result c.from_residual.ensures.1 in
-    rw p.1 (hands-stop P _ (p.2 ∙ h.is) (look-refused P c.args.count h.test) c.requires.reached.state)
+    rw p.1 (hands-stop P _ (p.2 ∙ back.is) (look-refused P c.args.count back.test) c.requires.reached.state)
 
 pub returns : goal.returns
 unfolding state_in closed_in
 returns c =
     let P : Problem = problem_of c.args.f.now c.args.coefficient.now in
-    let look = c.in_ok-look.ensures in
-    let v-fits : SFits w64 c.in_ok-look.look.value = search rules in
+    let looked = c.in_ok-value.ensures in
+    let look : LookIn (look_after P c.args.count) _ _ c.in_ok-value.value = record {
+      amounts-are = looked.amounts-are;
+      residuals-are = looked.residuals-are;
+      value-is = looked.back.is;
+    } in
+    let v-fits : SFits w64 c.in_ok-value.value = search rules in
     let low_fits : SFits w64 c.args.w.low = search rules in
     let fits : SFits w64 c.max-low.result = search rules in
     let w = c.requires.reached.state in
-    let l-is = low-is c.requires look.is v-fits low_fits fits c.max-low.ensures.value in
-    hands-state P (look-passed P c.args.count look.test) (λ k. record {
+    let l-is = low-is c.requires look v-fits low_fits fits c.max-low.ensures.value in
+    hands-state P (look-passed P c.args.count looked.back.test) (λ k. record {
       multipliers = (w k).multipliers;
       sums = (w k).sums;
       totals = (w k).totals;

@@ -1,6 +1,6 @@
 -- The look gives what step t works out, and what comes back is what the step hands back.
 use Rattle.std.proofs.Common.{◌≡◌, ℕ, suc, List, ℤ, ◌+ℤ◌, Bool, false, length, sym, ap, ◌∙◌, rules, SFits, to_z, of_z}
-use Rattle.std.proofs.Common.{to_z-of_z}
+use Rattle.std.proofs.Common.{to_z-of_z, refl, Ok}
 use Rattle.std.proofs.lemmas.List.{map-id}
 use Rattle.std.proofs.lemmas.Result.{err_from_is_err_and}
 use mathlib.Core.Path.{transport}
@@ -23,6 +23,7 @@ use Rattle.run_totals.specs.Changed.{Changed, changed-end}
 use Rattle.run_step.specs.declared.State.{State}
 use Rattle.run_step.specs.States.{state_in}
 use Rattle.run_step.specs.Reached.{LookReady}
+use Rattle.run_step.specs.Looked.{Looked}
 use Rattle.run_step.specs.Reads.{sums-read, totals-read}
 use Rattle.run_step.specs.Reads.{multipliers-changed, sums-changed, totals-changed}
 use Rattle.run_step.specs.Fitting.{move-fits, sums-fit, totals-fit}
@@ -132,47 +133,61 @@ module _ {f : Figures} {a : List ℤ} {greatest : ℤ} {t : ℕ} {w : State} (re
         ∙ low-of-run ready look
         ∙ low-handed-on P t
 
--- ---- the look is refused
-pub returns-in_err-look : goal.returns-in_err-look
+-- ---- the look, with two arrays of zeros
+pub look-requires : goal.look-requires
+look-requires c =
+    record { ready = rw (to_z-of_z c.ranges.greatest) c.requires; no-amounts = refl; no-residuals = refl }
+
+pub returns-in_err-value : goal.returns-in_err-value
 unfolding numbered number_of
-returns-in_err-look c =
+returns-in_err-value c =
     let P : Problem = problem_of c.args.f.now c.args.coefficient.now in
-    let h = c.in_err-look.ensures in
+    let back = c.in_err-value.ensures.back in
     let p = err_from_is_err_and c.from_residual.result c.from_residual.ensures.1 in
-    rw p.1 (hands-stop P _ (p.2 ∙ h.is) (refused-9 P c.args.t h.test) c.requires.reached.state)
+    rw p.1 (hands-stop P _ (p.2 ∙ back.is) (refused-9 P c.args.t back.test) c.requires.reached.state)
+
+-- the look of the run
+look-in : {P : Problem} {t : ℕ} {w : State} {x g : List ℤ} {value : ℤ} → Looked P t w x g (Ok value)
+    → LookIn (look_after P t) x g value
+look-in looked = record {
+  amounts-are = looked.amounts-are;
+  residuals-are = looked.residuals-are;
+  value-is = looked.back.is;
+}
 
 pub move_multipliers-requires : goal.move_multipliers-requires
-move_multipliers-requires c = move-asks c.requires c.in_ok-look.ensures.is
+move_multipliers-requires c = move-asks c.requires (look-in c.in_ok-value.ensures)
 
 pub returns-then-move_multipliers : goal.returns-then-move_multipliers
 unfolding numbered number_of
 returns-then-move_multipliers c =
     let P : Problem = problem_of c.args.f.now c.args.coefficient.now in
-    let look = c.in_ok-look.ensures in
+    let looked = c.in_ok-value.ensures in
     hands-stop P _ c.stop.ensures
-    (refused-10 P c.args.t look.test
-    (sym (test-10 c.requires look.is c.move_multipliers.ensures) ∙ c.if-move_multipliers.true))
+    (refused-10 P c.args.t looked.back.test
+    (sym (test-10 c.requires (look-in looked) c.move_multipliers.ensures) ∙ c.if-move_multipliers.true))
     c.requires.reached.state
 
 pub add-requires : goal.add-requires
-add-requires c = simp map-id (sums-ask c.requires c.in_ok-look.ensures.is)
+add-requires c = simp map-id (sums-ask c.requires (look-in c.in_ok-value.ensures))
 
 pub add-requires-2 : goal.add-requires-2
-add-requires-2 c = simp map-id (totals-ask c.requires c.in_ok-look.ensures.is)
+add-requires-2 c = simp map-id (totals-ask c.requires (look-in c.in_ok-value.ensures))
 
 pub returns : goal.returns
 unfolding state_in
 returns c =
     let P : Problem = problem_of c.args.f.now c.args.coefficient.now in
-    let v-fits : SFits w64 c.in_ok-look.look.value = search rules in
+    let v-fits : SFits w64 c.in_ok-value.value = search rules in
     let low_fits : SFits w64 c.args.self.low = search rules in
     let fits : SFits w64 c.max.result = search rules in
-    let look = c.in_ok-look.ensures in
+    let looked = c.in_ok-value.ensures in
+    let look = look-in looked in
     let converges = c.if-move_multipliers.false in
-    let m-are = multipliers-are c.requires look.is c.move_multipliers.ensures converges in
-    let s-are = sums-after c.requires look.is (simp map-id at c.add.ensures) in
-    let t-are = totals-after c.requires look.is (simp map-id at c.add-2.ensures) in
-    let l-is = low-is c.requires look.is low_fits v-fits fits c.max.ensures.value in
+    let m-are = multipliers-are c.requires look c.move_multipliers.ensures converges in
+    let s-are = sums-after c.requires look (simp map-id at c.add.ensures) in
+    let t-are = totals-after c.requires look (simp map-id at c.add-2.ensures) in
+    let l-is = low-is c.requires look low_fits v-fits fits c.max.ensures.value in
     hands-state P
-    (not-refused P c.args.t look.test (sym (test-10 c.requires look.is c.move_multipliers.ensures) ∙ converges))
+    (not-refused P c.args.t looked.back.test (sym (test-10 c.requires look c.move_multipliers.ensures) ∙ converges))
     (λ k. record { multipliers = m-are k; sums = s-are k; totals = t-are k; low = l-is k })
