@@ -26,91 +26,91 @@ unfolding write_refusal
 refused z A d r h = writes-refused _ (given _ (sym h))
 
 -- ---- the figures are not refused
-module _ (z : Sizes) (A : Arrays) (d : List ℕ) (passed : none ≡ arrays_refusal z A) where
+record Passed (z : Sizes) (A : Arrays) : Type 0 where
+  is : none ≡ arrays_refusal z A
+
+module _ {z : Sizes} {A : Arrays} (passed : Passed z A) where
   accepted : arrays_refusal z A ≡ none
-  accepted = sym passed
+  accepted = sym passed.is
 
   short : Short A
   short = record { short = few-present z A accepted }
 
   -- they are counted
-  module _ (e : ℕ) (counted : e ≡ figures_present A) where
+  module _ {e : ℕ} (counted : e ≡ figures_present A) where
     few : e ≤ 640
     few = omega (arith, few-present z A accepted)
 
     wanted : length (sheet_from z A) ≡ 12 + 6 * e
     wanted = wanted-is z A accepted ∙ ap (λ (e : ℕ). 12 + 6 * e) (sym counted)
 
-    refusal_is : write_refusal z A (length d) ≡ short_buffer 8 (sheet_from z A) (length d)
-    unfolding write_refusal
-    refusal_is = handed-on _ accepted
+    module _ (d : List ℕ) where
+      refusal_is : write_refusal z A (length d) ≡ short_buffer 8 (sheet_from z A) (length d)
+      unfolding write_refusal
+      refusal_is = handed-on _ accepted
 
-    -- the buffer is too short
-    lacking : {r : Refusal} → r ≡ record { place = 12 + 6 * e; cause = Buffer } → length d < 12 + 6 * e
-        → Writes (sheet_from z A) (write_refusal z A (length d)) d d (Err r)
-    unfolding numbered number_of
-    lacking is l = rw is (writes-refused _ (refusal_is ∙ too_short 8 (sheet_from z A) wanted l))
+      -- the buffer is too short
+      lacking : {r : Refusal} → r ≡ record { place = 12 + 6 * e; cause = Buffer } → length d < 12 + 6 * e
+          → Writes (sheet_from z A) (write_refusal z A (length d)) d d (Err r)
+      unfolding numbered number_of
+      lacking is l = rw is (writes-refused _ (refusal_is ∙ too_short 8 (sheet_from z A) wanted l))
 
-    -- it is long enough
-    module _ (l : 12 + 6 * e ≤ length d) where
-      sheet-ready : SheetReady e z A d
-      sheet-ready = record {
-        narrow = (shape-in z A accepted).narrow;
-        few = (shape-in z A accepted).few;
-        lengths = lengths-in z A accepted;
-        entries = counted;
-        short = few;
-        room = l;
-      }
+      -- it is long enough
+      module _ (l : 12 + 6 * e ≤ length d) where
+        sheet-ready : SheetReady e z A d
+        sheet-ready = record {
+          narrow = (shape-in z A accepted).narrow;
+          few = (shape-in z A accepted).few;
+          lengths = lengths-in z A accepted;
+          entries = counted;
+          short = few;
+          room = l;
+        }
 
-      wrote : {d' : List ℕ} → d' ≡ written (sheet_from z A) d
-          → Writes (sheet_from z A) (write_refusal z A (length d)) d d' (Ok (12 + 6 * e))
-      unfolding written
-      wrote put = writes-all (refusal_is ∙ long-enough 8 (sheet_from z A) wanted l) (sym wanted) put
+        wrote : {d' : List ℕ} → d' ≡ written (sheet_from z A) d
+            → Writes (sheet_from z A) (write_refusal z A (length d)) d d' (Ok (12 + 6 * e))
+        unfolding written
+        wrote put = writes-all (refusal_is ∙ long-enough 8 (sheet_from z A) wanted l) (sym wanted) put
 
 pub returns-in_err-check_arrays : goal.returns-in_err-check_arrays
 unfolding refusal_of
 returns-in_err-check_arrays c =
     let err = err_from_is_err_and c.from_residual.result c.from_residual.ensures.1 in
-    rw (err.1, err.2) (refused c.args.sizes c.args.arrays.now c.args.sheet.now _ (cc c.in_err-check_arrays.ensures))
+    rw (err.1, err.2)
+    (refused c.args.sizes c.args.arrays.now c.args.sheet.now _ (cc c.in_err-check_arrays.ensures))
 
 pub count_entries-e-requires : goal.count_entries-e-requires
 unfolding refusal_of
-count_entries-e-requires c = short c.args.sizes c.args.arrays.now c.args.sheet.now (cc c.in_ok-check_arrays.ensures)
+count_entries-e-requires c =
+    let passed : Passed c.args.sizes c.args.arrays.now = record { is = cc c.in_ok-check_arrays.ensures } in
+    short passed
 
 pub overflow_mul-wanted : goal.overflow_mul-wanted
 unfolding refusal_of
-overflow_mul-wanted c = record {
-  fits = omega (
-    arith,
-    few c.args.sizes c.args.arrays.now c.args.sheet.now (cc c.in_ok-check_arrays.ensures) _ c.count_entries-e.ensures,
-  );
-}
+overflow_mul-wanted c =
+    let passed : Passed c.args.sizes c.args.arrays.now = record { is = cc c.in_ok-check_arrays.ensures } in
+    record { fits = omega (arith, few passed c.count_entries-e.ensures) }
 
 pub overflow_add-wanted : goal.overflow_add-wanted
 unfolding refusal_of
-overflow_add-wanted c = record {
-  fits = omega (
-    arith,
-    few c.args.sizes c.args.arrays.now c.args.sheet.now (cc c.in_ok-check_arrays.ensures) _ c.count_entries-e.ensures,
-  );
-}
+overflow_add-wanted c =
+    let passed : Passed c.args.sizes c.args.arrays.now = record { is = cc c.in_ok-check_arrays.ensures } in
+    record { fits = omega (arith, few passed c.count_entries-e.ensures) }
 
 pub returns-then-sheet-wanted : goal.returns-then-sheet-wanted
 unfolding refusal_of
 returns-then-sheet-wanted c =
-    lacking c.args.sizes c.args.arrays.now c.args.sheet.now (cc c.in_ok-check_arrays.ensures) _
-    c.count_entries-e.ensures c.at.ensures c.if-sheet-wanted.true
+    let passed : Passed c.args.sizes c.args.arrays.now = record { is = cc c.in_ok-check_arrays.ensures } in
+    lacking passed c.count_entries-e.ensures c.args.sheet.now c.at.ensures c.if-sheet-wanted.true
 
 pub put_sheet-requires : goal.put_sheet-requires
 unfolding refusal_of
 put_sheet-requires c =
-    sheet-ready c.args.sizes c.args.arrays.now c.args.sheet.now (cc c.in_ok-check_arrays.ensures) _
-    c.count_entries-e.ensures c.if-sheet-wanted.false
+    let passed : Passed c.args.sizes c.args.arrays.now = record { is = cc c.in_ok-check_arrays.ensures } in
+    sheet-ready passed c.count_entries-e.ensures c.args.sheet.now c.if-sheet-wanted.false
 
 pub returns : goal.returns
 unfolding refusal_of
 returns c =
-    wrote c.args.sizes c.args.arrays.now c.args.sheet.now (cc c.in_ok-check_arrays.ensures) _
-    c.count_entries-e.ensures c.if-sheet-wanted.false
-    c.put_sheet.ensures
+    let passed : Passed c.args.sizes c.args.arrays.now = record { is = cc c.in_ok-check_arrays.ensures } in
+    wrote passed c.count_entries-e.ensures c.args.sheet.now c.if-sheet-wanted.false c.put_sheet.ensures
