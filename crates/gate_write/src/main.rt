@@ -66,7 +66,11 @@ fn sizes_of(head: &[u8; HEAD]) -> Sizes {
 // Each function from here to `print_case` answers nothing where the case is not a sound one.
 
 // Writes the sheet of a case into a buffer. The case must have the figures that it says it has.
-fn write_case(head: &[u8; HEAD], figures: &[i32], buffer: &mut [u8]) -> Option<Result<usize, Refusal>> {
+fn write_case(
+    head: &[u8; HEAD],
+    figures: &[i32],
+    buffer: &mut [u8],
+) -> Option<Result<usize, Refusal>> {
     let (costs, figures) = figures.split_at_checked(size_at(head, 20))?;
     let (least_amounts, figures) = figures.split_at_checked(size_at(head, 22))?;
     let (most_amounts, figures) = figures.split_at_checked(size_at(head, 24))?;
