@@ -25,14 +25,18 @@ pub fn close(
 {
     let mut amounts = [0; 32];
     let mut residuals = [0; 16];
-    let value = w.look(
+    // A `?` would copy the whole stop.
+    let value = match w.look(
         f,
         coefficient,
         greatest,
         count,
         &mut amounts,
         &mut residuals,
-    )?;
+    ) {
+        Ok(value) => value,
+        Err(refusal) => return Err(Stop { refusal, state: w }),
+    };
     let low = w.low.max(value);
     Ok(State { low, ..w })
 }

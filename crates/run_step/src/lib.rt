@@ -34,22 +34,13 @@ pub struct Stop {
     pub state: State,
 }
 
-// What a stop is refused with, for `?`.
-impl From<Stop> for Refusal {
-    ghost from_gives = { λ stop refusal. refusal ≡ stop.refusal };
-
-    fn from(stop: Stop) -> Refusal {
-        stop.refusal
-    }
-}
-
 impl State {
-    // A stop at step t, which hands the state back as it was.
-    fn stop(self, t: usize, cause: Cause) -> Stop
-        ensures { result ≡ record { refusal = record { place = t; cause = cause }; state = self } }
+    // A stop, which hands the state back as it was.
+    fn stop(self, refusal: Refusal) -> Stop
+        ensures { result ≡ record { refusal = refusal; state = self } }
     {
         Stop {
-            refusal: cause.at(t),
+            refusal,
             state: self,
         }
     }
@@ -65,13 +56,13 @@ impl State {
         t: usize,
         amounts: &mut [i16; 32],
         residuals: &mut [i32; 16],
-    ) -> Result<i64, Stop>
+    ) -> Result<i64, Refusal>
         requires { LookAsks f.now coefficient.now greatest t self.now amounts.old residuals.old }
-        ensures { Looked (problem_of f.now coefficient.now) t self.now amounts.new residuals.new result }
+        ensures { Looked (problem_of f.now coefficient.now) t amounts.new residuals.new result }
     {
         let value = look_at(f, coefficient, &self.multipliers, amounts, residuals);
         if greatest < value {
-            return Err(self.stop(t, Cause::Infeasible));
+            return Err(Cause::Infeasible.at(t));
         }
         Ok(value)
     }
@@ -92,10 +83,14 @@ impl State {
     {
         let mut amounts = [0; 32];
         let mut residuals = [0; 16];
-        let value = self.look(f, coefficient, greatest, t, &mut amounts, &mut residuals)?;
+        // A `?` would copy the whole stop at each step.
+        let value = match self.look(f, coefficient, greatest, t, &mut amounts, &mut residuals) {
+            Ok(value) => value,
+            Err(refusal) => return Err(self.stop(refusal)),
+        };
         let mut next = self;
         if move_multipliers(f, &mut next.multipliers, &residuals) {
-            return Err(self.stop(t, Cause::Diverged));
+            return Err(self.stop(Cause::Diverged.at(t)));
         }
         add(f.materials, &mut next.sums, &amounts);
         add(f.limits, &mut next.totals, &residuals);

@@ -27,7 +27,11 @@ pub fn run(f: &Figures, coefficient: &[i16; 512]) -> Result<State, Stop>
         low,
     };
     for t in 0..f.steps {
-        state = state.step(f, coefficient, greatest, t)?;
+        // A `?` would copy the state once more at each step.
+        state = match state.step(f, coefficient, greatest, t) {
+            Ok(next) => next,
+            Err(stop) => return Err(stop),
+        };
     }
     close(state, f, coefficient, greatest, f.steps)
 }

@@ -1,6 +1,5 @@
 -- A stop of the run is refused, and a run to its end is written.
 use Rattle.std.proofs.Common.{sym, ◌∙◌, List, ℤ, Ok}
-use Rattle.std.proofs.lemmas.Result.{err_from_is_err_and}
 use Rattle.std.proofs.Math.Nat.{le_refl}
 use Rattle.rules.specs.Answers.{run_refusal}
 use Rattle.sheet_figures.specs.declared.Figures.{Figures}
@@ -11,10 +10,8 @@ use Rattle.run_step.specs.Reached.{FiguresReady, Finished}
 use Rattle.planner.proofs.Ending.{ends-refused, ends_same, plan-in-arrays, write-ready}
 use Rattle.planner.proofs.plan_run.Goals as goal
 
-pub returns-in_err-state : goal.returns-in_err-state
-returns-in_err-state c =
-    let refused = err_from_is_err_and c.from_residual.result c.from_residual.ensures.1 in
-    rw (refused.1, refused.2) (ends-refused _ (sym c.in_err-state.ensures.stop))
+pub returns-in-Err : goal.returns-in-Err
+returns-in-Err c = ends-refused _ (sym c.in-Err.ensures.stop)
 
 finished : (f : Figures) (a : List ℤ) {state : State} → FiguresReady f a
     → HandedBack (problem_of f a) (closed_in (problem_of f a) f.steps) (run_refusal (problem_of f a) f.steps) (Ok state)
@@ -32,11 +29,11 @@ finished f a ready back =
 pub write_plan-requires : goal.write_plan-requires
 write_plan-requires c =
     write-ready _ _
-    (finished c.args.f c.args.coefficient.now c.requires.figures c.in_ok-state.ensures) c.requires.room
+    (finished c.args.f c.args.coefficient.now c.requires.figures c.in-Ok.ensures) c.requires.room
 
-pub returns : goal.returns
-returns c =
+pub returns-in-Ok : goal.returns-in-Ok
+returns-in-Ok c =
     ends_same
-    (plan-in-arrays _ _ (finished c.args.f c.args.coefficient.now c.requires.figures c.in_ok-state.ensures))
-    c.in_ok-state.ensures.stop
+    (plan-in-arrays _ _ (finished c.args.f c.args.coefficient.now c.requires.figures c.in-Ok.ensures))
+    c.in-Ok.ensures.stop
     c.write_plan.ensures

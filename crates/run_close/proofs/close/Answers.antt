@@ -1,6 +1,5 @@
 -- The look is that of the run, and what comes back is the state with low, or refusal 9 with the state as it was.
 use Rattle.std.proofs.Common.{◌≡◌, ℕ, List, ℤ, refl, ◌∙◌, rules, SFits, to_z, of_z, to_z-of_z}
-use Rattle.std.proofs.lemmas.Result.{err_from_is_err_and}
 use Rattle.std.specs.Int.{w64, int_max}
 use Rattle.rules.specs.Notation.{maxℤ}
 use Rattle.rules.specs.Problem.{Problem}
@@ -34,25 +33,25 @@ pub look-requires : goal.look-requires
 look-requires c =
     record { ready = rw (to_z-of_z c.ranges.greatest) c.requires; no-amounts = refl; no-residuals = refl }
 
-pub returns-in_err-value : goal.returns-in_err-value
+pub returns-in-Err : goal.returns-in-Err
 unfolding numbered number_of
-returns-in_err-value c =
+returns-in-Err c =
     let P : Problem = problem_of c.args.f.now c.args.coefficient.now in
-    let back = c.in_err-value.ensures.back in
-    let p = err_from_is_err_and c.from_residual.result c.from_residual.ensures.1 in
-    rw p.1 (hands-stop P _ (p.2 ∙ back.is) (look-refused P c.args.count back.test) c.requires.reached.state)
+    let back = c.in-Err.ensures.back in
+    hands-stop P _ (λ k. record { refusal = back.is k; state = c.args.w })
+    (look-refused P c.args.count back.test) c.requires.reached.state
 
 pub returns : goal.returns
 unfolding state_in closed_in
 returns c =
     let P : Problem = problem_of c.args.f.now c.args.coefficient.now in
-    let looked = c.in_ok-value.ensures in
-    let look : LookIn (look_after P c.args.count) _ _ c.in_ok-value.value = record {
+    let looked = c.in-Ok.ensures in
+    let look : LookIn (look_after P c.args.count) _ _ c.in-Ok.value = record {
       amounts-are = looked.amounts-are;
       residuals-are = looked.residuals-are;
       value-is = looked.back.is;
     } in
-    let v-fits : SFits w64 c.in_ok-value.value = search rules in
+    let v-fits : SFits w64 c.in-Ok.value = search rules in
     let low_fits : SFits w64 c.args.w.low = search rules in
     let fits : SFits w64 c.max-low.result = search rules in
     let w = c.requires.reached.state in

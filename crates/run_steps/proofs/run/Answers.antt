@@ -1,5 +1,4 @@
 use Rattle.std.proofs.Common.{◌≡◌, ℕ, zero-le, sym, subst, ◌∙◌, rules, arith, SFits, to_z-of_z}
-use Rattle.std.proofs.lemmas.Result.{err_from_is_err_and}
 use Rattle.std.specs.Int.{w64}
 use Rattle.rules.specs.Problem.{Problem, cost_of}
 use Rattle.rules.specs.Step.{greatest_cost, cheapest_cost}
@@ -47,12 +46,10 @@ step-requires c =
     record { reached = c.loop-t.invariant; greatest-is = to_z-of_z fits ∙ c.greatest_value-greatest.ensures }
 
 -- ---- after a step
-pub returns-in_err-state : goal.returns-in_err-state
-returns-in_err-state c =
-    let P : Problem = problem_of c.args.f.now c.args.coefficient.now in
-    let p = err_from_is_err_and c.from_residual.result c.from_residual.ensures.1 in
-    let handed = hands_on P _ c.loop-t.invariant.going c.args.f.now.steps c.loop-t-test.true c.in_err-state.ensures in
-    rw (p.1, p.2) handed
+pub returns-in-Err : goal.returns-in-Err
+returns-in-Err c =
+    hands_on (problem_of c.args.f.now c.args.coefficient.now) _ c.loop-t.invariant.going c.args.f.now.steps
+    c.loop-t-test.true c.in-Err.ensures
 
 pub loop-t-preserved : goal.loop-t-preserved
 loop-t-preserved c =
@@ -61,8 +58,8 @@ loop-t-preserved c =
     record {
       accepted = reached.accepted;
       few = omega arith;
-      going = still-going P _ reached.going c.in_ok-state.ensures;
-      state = next-state P _ reached.going c.in_ok-state.ensures;
+      going = still-going P _ reached.going c.in-Ok.ensures;
+      state = next-state P _ reached.going c.in-Ok.ensures;
     }
 
 -- ---- after the last step: all steps were taken

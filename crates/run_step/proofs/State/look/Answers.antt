@@ -15,7 +15,7 @@ returns-then-greatest-value c =
     record {
       amounts-are = look.amounts-are;
       residuals-are = look.residuals-are;
-      back = record { test = sym (test-of-run c.requires.ready look) ∙ test; is = c.stop.ensures };
+      back = record { test = sym (test-of-run c.requires.ready look) ∙ test; is = c.at.ensures };
     }
 
 pub returns : goal.returns

@@ -2,7 +2,6 @@
 use Rattle.std.proofs.Common.{◌≡◌, ℕ, suc, List, ℤ, ◌+ℤ◌, Bool, false, length, sym, ap, ◌∙◌, rules, SFits, to_z, of_z}
 use Rattle.std.proofs.Common.{to_z-of_z, refl, Ok}
 use Rattle.std.proofs.lemmas.List.{map-id}
-use Rattle.std.proofs.lemmas.Result.{err_from_is_err_and}
 use mathlib.Core.Path.{transport}
 use Rattle.std.specs.Int.{w32, w64, int_max}
 use Rattle.rules.specs.Notation.{maxℤ, tabulate, at}
@@ -138,16 +137,16 @@ pub look-requires : goal.look-requires
 look-requires c =
     record { ready = rw (to_z-of_z c.ranges.greatest) c.requires; no-amounts = refl; no-residuals = refl }
 
-pub returns-in_err-value : goal.returns-in_err-value
+pub returns-in-Err : goal.returns-in-Err
 unfolding numbered number_of
-returns-in_err-value c =
+returns-in-Err c =
     let P : Problem = problem_of c.args.f.now c.args.coefficient.now in
-    let back = c.in_err-value.ensures.back in
-    let p = err_from_is_err_and c.from_residual.result c.from_residual.ensures.1 in
-    rw p.1 (hands-stop P _ (p.2 ∙ back.is) (refused-9 P c.args.t back.test) c.requires.reached.state)
+    let back = c.in-Err.ensures.back in
+    hands-stop P _ (c.stop.ensures ∙ (λ k. record { refusal = back.is k; state = c.args.self }))
+    (refused-9 P c.args.t back.test) c.requires.reached.state
 
 -- the look of the run
-look-in : {P : Problem} {t : ℕ} {w : State} {x g : List ℤ} {value : ℤ} → Looked P t w x g (Ok value)
+look-in : {P : Problem} {t : ℕ} {x g : List ℤ} {value : ℤ} → Looked P t x g (Ok value)
     → LookIn (look_after P t) x g value
 look-in looked = record {
   amounts-are = looked.amounts-are;
@@ -156,32 +155,33 @@ look-in looked = record {
 }
 
 pub move_multipliers-requires : goal.move_multipliers-requires
-move_multipliers-requires c = move-asks c.requires (look-in c.in_ok-value.ensures)
+move_multipliers-requires c = move-asks c.requires (look-in c.in-Ok.ensures)
 
 pub returns-then-move_multipliers : goal.returns-then-move_multipliers
 unfolding numbered number_of
 returns-then-move_multipliers c =
     let P : Problem = problem_of c.args.f.now c.args.coefficient.now in
-    let looked = c.in_ok-value.ensures in
-    hands-stop P _ c.stop.ensures
+    let looked = c.in-Ok.ensures in
+    hands-stop P _
+    (c.stop-then-move_multipliers.ensures ∙ (λ k. record { refusal = c.at.ensures k; state = c.args.self }))
     (refused-10 P c.args.t looked.back.test
     (sym (test-10 c.requires (look-in looked) c.move_multipliers.ensures) ∙ c.if-move_multipliers.true))
     c.requires.reached.state
 
 pub add-requires : goal.add-requires
-add-requires c = simp map-id (sums-ask c.requires (look-in c.in_ok-value.ensures))
+add-requires c = simp map-id (sums-ask c.requires (look-in c.in-Ok.ensures))
 
 pub add-requires-2 : goal.add-requires-2
-add-requires-2 c = simp map-id (totals-ask c.requires (look-in c.in_ok-value.ensures))
+add-requires-2 c = simp map-id (totals-ask c.requires (look-in c.in-Ok.ensures))
 
 pub returns : goal.returns
 unfolding state_in
 returns c =
     let P : Problem = problem_of c.args.f.now c.args.coefficient.now in
-    let v-fits : SFits w64 c.in_ok-value.value = search rules in
+    let v-fits : SFits w64 c.in-Ok.value = search rules in
     let low_fits : SFits w64 c.args.self.low = search rules in
     let fits : SFits w64 c.max.result = search rules in
-    let looked = c.in_ok-value.ensures in
+    let looked = c.in-Ok.ensures in
     let look = look-in looked in
     let converges = c.if-move_multipliers.false in
     let m-are = multipliers-are c.requires look c.move_multipliers.ensures converges in
