@@ -41,9 +41,10 @@ pub fn close(
             };
         }
     };
-    let low = w.low.max(value);
+    let mut closed = w;
+    closed.low = w.low.max(value);
     Stepped {
         stop: Ok(()),
-        state: State { low, ..w },
+        state: closed,
     }
 }

@@ -53,9 +53,9 @@ returns c =
     } in
     let v-fits : SFits w64 c.in-Ok.value = search rules in
     let low_fits : SFits w64 c.args.w.low = search rules in
-    let fits : SFits w64 c.max-low.result = search rules in
+    let fits : SFits w64 c.max.result = search rules in
     let w = c.requires.reached.state in
-    let l-is = low-is c.requires look v-fits low_fits fits c.max-low.ensures.value in
+    let l-is = low-is c.requires look v-fits low_fits fits c.max.ensures.value in
     hands-state P refl (look-passed P c.args.count looked.back.test) (λ k. record {
       multipliers = (w k).multipliers;
       sums = (w k).sums;
