@@ -47,10 +47,9 @@ fn plan_run(f: Figures, coefficient: &[i16; 512], record: &mut [u8]) -> Result<P
         (run_refusal (problem_of f coefficient.now) f.steps)
         «record».old «record».new result }
 {
-    match run(&f, coefficient) {
-        Ok(state) => write_plan(f, state, record),
-        Err(stop) => Err(stop.refusal),
-    }
+    let ran = run(&f, coefficient);
+    ran.stop?;
+    write_plan(f, ran.state, record)
 }
 
 // The plan of a sheet's figures, or refusals 8 to 10.

@@ -6,7 +6,7 @@ ghost use Rattle.sheet_figures.specs.Figures.{problem_of};
 ghost use Rattle.run_step.specs.States.{closed_in, HandedBack};
 ghost use Rattle.run_step.specs.Reached.{LookReady};
 
-use run_step::{State, Stop};
+use run_step::{State, Stepped};
 use sheet_figures::Figures;
 
 // Closes a run of `count` steps, with D times the greatest cost: the look at the multipliers and its refusal 9, then
@@ -17,7 +17,7 @@ pub fn close(
     coefficient: &[i16; 512],
     greatest: i64,
     count: usize,
-) -> Result<State, Stop>
+) -> Stepped
     requires { LookReady f.now coefficient.now greatest count w }
     ensures { HandedBack (problem_of f.now coefficient.now)
         (closed_in (problem_of f.now coefficient.now) count)
@@ -25,7 +25,6 @@ pub fn close(
 {
     let mut amounts = [0; 32];
     let mut residuals = [0; 16];
-    // A `?` would copy the whole stop.
     let value = match w.look(
         f,
         coefficient,
@@ -35,8 +34,17 @@ pub fn close(
         &mut residuals,
     ) {
         Ok(value) => value,
-        Err(refusal) => return Err(Stop { refusal, state: w }),
+        Err(refusal) => {
+            return Stepped {
+                stop: Err(refusal),
+                state: w,
+            };
+        }
     };
-    let low = w.low.max(value);
-    Ok(State { low, ..w })
+    let mut closed = w;
+    closed.low = w.low.max(value);
+    Stepped {
+        stop: Ok(()),
+        state: closed,
+    }
 }

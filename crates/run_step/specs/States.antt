@@ -1,13 +1,13 @@
 -- The state of the run in arrays, and what steps and looks hand back.
-use Rattle.std.specs.Prelude.{◌≡◌, ℕ, Result, Ok, Err}
+use Rattle.std.specs.Prelude.{◌≡◌, ℕ}
 use Rattle.std.proofs.Math.Option.{Option, none, some}
 use Rattle.rules.specs.Problem.{Problem}
 use Rattle.rules.specs.Step as step
 use Rattle.rules.specs.Run.{state_after, low_after}
-use Rattle.rules.specs.Refusals.{Numbered, numbered}
+use Rattle.rules.specs.Refusals.{Numbered, refusal_of}
 use Rattle.sheet_figures.specs.Padded.{padded}
 use Rattle.run_step.specs.declared.State.{State}
-use Rattle.run_step.specs.declared.Stop.{Stop}
+use Rattle.run_step.specs.declared.Stepped.{Stepped}
 
 -- a state in arrays of 16 and 32 places: the places past m and n hold 0
 unfoldable pub state_in : step.State → State
@@ -17,15 +17,6 @@ state_in w = record {
   totals = padded 16 w.residual_totals;
   low = w.lower_bound;
 }
-
--- what a step or a run hands back: its refusal, if it is a stop, and the state
-abbrev pub stop_of : Result State Stop → Option Numbered
-stop_of (Ok w) = none
-stop_of (Err s) = some (numbered s.refusal)
-
-abbrev pub state_of : Result State Stop → State
-state_of (Ok w) = w
-state_of (Err s) = s.state
 
 -- Of the run of P:
 module _ (P : Problem) where
@@ -47,8 +38,8 @@ module _ (P : Problem) where
   handed_state done none = done
   handed_state done (some r) = reached_in r.place
 
-  -- What is handed back where the state at the end is `done`, with the refusal that was met, if any: the stop
-  -- and the whole state.
-  pub record HandedBack (done : State) (met : Option Numbered) (r : Result State Stop) : Type 0 where
-    pub stop : stop_of r ≡ met
-    pub state : state_of r ≡ handed_state done met
+  -- What is handed back where the state at the end is `done`, with the refusal that was met, if any: the stop, and
+  -- beside it the whole state.
+  pub record HandedBack (done : State) (met : Option Numbered) (r : Stepped) : Type 0 where
+    pub stop : refusal_of r.stop ≡ met
+    pub state : r.state ≡ handed_state done met

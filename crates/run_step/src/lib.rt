@@ -27,20 +27,21 @@ pub struct State {
     pub low: i64,
 }
 
-// A stop of the run: the refusal, and the whole state after the steps before it.
+// What a step hands back: the whole state, and beside it the stop. Tried as `Result<State, Stop>`: each step took 25 ns
+// longer, since the compiler then moves the state word by word.
 #[derive(Clone, Copy)]
-pub struct Stop {
-    pub refusal: Refusal,
+pub struct Stepped {
+    pub stop: Result<(), Refusal>,
     pub state: State,
 }
 
 impl State {
     // A stop, which hands the state back as it was.
-    fn stop(self, refusal: Refusal) -> Stop
-        ensures { result ≡ record { refusal = refusal; state = self } }
+    fn stopped(self, refusal: Refusal) -> Stepped
+        ensures { result ≡ record { stop = Err refusal; state = self } }
     {
-        Stop {
-            refusal,
+        Stepped {
+            stop: Err(refusal),
             state: self,
         }
     }
@@ -69,13 +70,7 @@ impl State {
 
     // Step t, with D times the greatest cost: the look at the multipliers and its refusal 9, the move and its
     // refusal 10, then the sums and the totals.
-    pub fn step(
-        self,
-        f: &Figures,
-        coefficient: &[i16; 512],
-        greatest: i64,
-        t: usize,
-    ) -> Result<State, Stop>
+    pub fn step(self, f: &Figures, coefficient: &[i16; 512], greatest: i64, t: usize) -> Stepped
         requires { LookReady f.now coefficient.now greatest t self }
         ensures { HandedBack (problem_of f.now coefficient.now)
             (reached_in (problem_of f.now coefficient.now) (suc t))
@@ -83,18 +78,20 @@ impl State {
     {
         let mut amounts = [0; 32];
         let mut residuals = [0; 16];
-        // A `?` would copy the whole stop at each step.
         let value = match self.look(f, coefficient, greatest, t, &mut amounts, &mut residuals) {
             Ok(value) => value,
-            Err(refusal) => return Err(self.stop(refusal)),
+            Err(refusal) => return self.stopped(refusal),
         };
         let mut next = self;
         if move_multipliers(f, &mut next.multipliers, &residuals) {
-            return Err(self.stop(Cause::Diverged.at(t)));
+            return self.stopped(Cause::Diverged.at(t));
         }
         add(f.materials, &mut next.sums, &amounts);
         add(f.limits, &mut next.totals, &residuals);
         next.low = self.low.max(value);
-        Ok(next)
+        Stepped {
+            stop: Ok(()),
+            state: next,
+        }
     }
 }

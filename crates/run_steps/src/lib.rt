@@ -8,11 +8,11 @@ ghost use Rattle.run_step.specs.States.{closed_in, HandedBack};
 
 use run_close::close;
 use run_costs::{cheapest_value, greatest_value};
-use run_step::{State, Stop};
+use run_step::{State, Stepped};
 use sheet_figures::Figures;
 
 // All steps, from the starting multipliers and D times the cheapest cost as low, and then the closing look.
-pub fn run(f: &Figures, coefficient: &[i16; 512]) -> Result<State, Stop>
+pub fn run(f: &Figures, coefficient: &[i16; 512]) -> Stepped
     requires { FiguresReady f.now coefficient.now }
     ensures { HandedBack (problem_of f.now coefficient.now)
         (closed_in (problem_of f.now coefficient.now) f.now.steps)
@@ -20,18 +20,23 @@ pub fn run(f: &Figures, coefficient: &[i16; 512]) -> Result<State, Stop>
 {
     let greatest = greatest_value(f);
     let low = cheapest_value(f);
-    let mut state = State {
-        multipliers: f.start,
-        sums: [0; 32],
-        totals: [0; 16],
-        low,
+    let mut r = Stepped {
+        stop: Ok(()),
+        state: State {
+            multipliers: f.start,
+            sums: [0; 32],
+            totals: [0; 16],
+            low,
+        },
     };
     for t in 0..f.steps {
-        // A `?` would copy the state once more at each step.
-        state = match state.step(f, coefficient, greatest, t) {
-            Ok(next) => next,
-            Err(stop) => return Err(stop),
+        let w = r.state;
+        r = w.step(f, coefficient, greatest, t);
+        let stop = r.stop;
+        let Ok(()) = stop else {
+            return r;
         };
     }
-    close(state, f, coefficient, greatest, f.steps)
+    let last = r.state;
+    close(last, f, coefficient, greatest, f.steps)
 }

@@ -1,5 +1,5 @@
 -- The look is that of the run, and what comes back is the state with low, or refusal 9 with the state as it was.
-use Rattle.std.proofs.Common.{◌≡◌, ℕ, List, ℤ, refl, ◌∙◌, rules, SFits, to_z, of_z, to_z-of_z}
+use Rattle.std.proofs.Common.{◌≡◌, ℕ, List, ℤ, Err, refl, ◌∙◌, rules, SFits, to_z, of_z, to_z-of_z}
 use Rattle.std.specs.Int.{w64, int_max}
 use Rattle.rules.specs.Notation.{maxℤ}
 use Rattle.rules.specs.Problem.{Problem}
@@ -38,7 +38,7 @@ unfolding numbered number_of
 returns-in-Err c =
     let P : Problem = problem_of c.args.f.now c.args.coefficient.now in
     let back = c.in-Err.ensures.back in
-    hands-stop P _ (λ k. record { refusal = back.is k; state = c.args.w })
+    hands-stop P _ (λ k. record { stop = Err (back.is k); state = c.args.w })
     (look-refused P c.args.count back.test) c.requires.reached.state
 
 pub returns : goal.returns
@@ -53,10 +53,10 @@ returns c =
     } in
     let v-fits : SFits w64 c.in-Ok.value = search rules in
     let low_fits : SFits w64 c.args.w.low = search rules in
-    let fits : SFits w64 c.max-low.result = search rules in
+    let fits : SFits w64 c.max.result = search rules in
     let w = c.requires.reached.state in
-    let l-is = low-is c.requires look v-fits low_fits fits c.max-low.ensures.value in
-    hands-state P (look-passed P c.args.count looked.back.test) (λ k. record {
+    let l-is = low-is c.requires look v-fits low_fits fits c.max.ensures.value in
+    hands-state P refl (look-passed P c.args.count looked.back.test) (λ k. record {
       multipliers = (w k).multipliers;
       sums = (w k).sums;
       totals = (w k).totals;

@@ -1,4 +1,4 @@
-use Rattle.std.proofs.Common.{◌≡◌, ℕ, zero-le, sym, subst, ◌∙◌, rules, arith, SFits, to_z-of_z}
+use Rattle.std.proofs.Common.{◌≡◌, ℕ, zero-le, refl, sym, subst, ◌∙◌, rules, arith, SFits, to_z-of_z}
 use Rattle.std.specs.Int.{w64}
 use Rattle.rules.specs.Problem.{Problem, cost_of}
 use Rattle.rules.specs.Step.{greatest_cost, cheapest_cost}
@@ -26,59 +26,66 @@ unfolding step_refusal state_in state_after starting_state cheapest_cost cost_of
 loop-t-init c =
     let f = c.args.f.now in
     let fits : SFits w64 c.cheapest_value-low.result = search rules in
-    let low = to_z-of_z fits ∙ c.cheapest_value-low.ensures in
-    record {
-      accepted = c.requires.accepted;
-      few = zero-le;
-      going = first-start _;
-      state = λ k. record {
-        multipliers = c.requires.starts k;
-        sums = sym (padded-zero 32 f.materials) k;
-        totals = sym (padded-zero 16 f.limits) k;
-        low = low k;
-      };
-    }
+    let low = to_z-of_z fits ∙ c.cheapest_value-low.ensures in (
+      refl,
+      record {
+        accepted = c.requires.accepted;
+        few = zero-le;
+        going = first-start _;
+        state = λ k. record {
+          multipliers = c.requires.starts k;
+          sums = sym (padded-zero 32 f.materials) k;
+          totals = sym (padded-zero 16 f.limits) k;
+          low = low k;
+        };
+      },
+    )
 
-pub step-requires : goal.step-requires
+pub step-r-requires : goal.step-r-requires
 unfolding greatest_cost cost_of
-step-requires c =
+step-r-requires c =
     let fits : SFits w64 c.greatest_value-greatest.result = search rules in
-    record { reached = c.loop-t.invariant; greatest-is = to_z-of_z fits ∙ c.greatest_value-greatest.ensures }
+    record { reached = c.loop-t.invariant.1; greatest-is = to_z-of_z fits ∙ c.greatest_value-greatest.ensures }
 
 -- ---- after a step
-pub returns-in-Err : goal.returns-in-Err
-returns-in-Err c =
-    hands_on (problem_of c.args.f.now c.args.coefficient.now) _ c.loop-t.invariant.going c.args.f.now.steps
-    c.loop-t-test.true c.in-Err.ensures
+pub returns-in_default : goal.returns-in_default
+returns-in_default c =
+    let P : Problem = problem_of c.args.f.now c.args.coefficient.now in
+    hands_on P _ c.loop-t.invariant.1.going c.step-r.ensures c.args.f.now.steps c.loop-t-test.true c.in_default.is
 
 pub loop-t-preserved : goal.loop-t-preserved
 loop-t-preserved c =
     let P : Problem = problem_of c.args.f.now c.args.coefficient.now in
-    let reached = c.loop-t.invariant in
-    record {
-      accepted = reached.accepted;
-      few = omega arith;
-      going = still-going P _ reached.going c.in-Ok.ensures;
-      state = next-state P _ reached.going c.in-Ok.ensures;
-    }
+    let reached = c.loop-t.invariant.1 in
+    let going = c.in-Ok.is in (
+      going,
+      record {
+        accepted = reached.accepted;
+        few = omega arith;
+        going = still-going P _ reached.going c.step-r.ensures going;
+        state = next-state P _ reached.going c.step-r.ensures going;
+      },
+    )
 
 -- ---- after the last step: all steps were taken
 pub close-requires : goal.close-requires
 unfolding greatest_cost cost_of
 close-requires c =
     let f = c.args.f.now in
+    let a = c.args.coefficient.now in
     let fits : SFits w64 c.greatest_value-greatest.result = search rules in
-    let reached = c.loop-t.invariant in
+    let reached = c.loop-t.invariant.1 in
     let all : c.loop-t.t ≡ f.steps = omega (arith, reached.few) in
     record {
-      reached = subst (λ (t : ℕ). Reached f c.args.coefficient.now t c.loop-t.state) all reached;
+      reached = subst (λ (t : ℕ). Reached f a t c.loop-t.r.state) all reached;
       greatest-is = to_z-of_z fits ∙ c.greatest_value-greatest.ensures;
     }
 
 pub returns : goal.returns
 returns c =
     let f = c.args.f.now in
-    let reached = c.loop-t.invariant in
+    let a = c.args.coefficient.now in
+    let reached = c.loop-t.invariant.1 in
     let all : c.loop-t.t ≡ f.steps = omega (arith, reached.few) in
-    let last = subst (λ (t : ℕ). Reached f c.args.coefficient.now t c.loop-t.state) all reached in
-    hands-closed (problem_of f c.args.coefficient.now) f.steps last.going c.close.ensures
+    let last = subst (λ (t : ℕ). Reached f a t c.loop-t.r.state) all reached in
+    hands-closed (problem_of f a) f.steps last.going c.close.ensures

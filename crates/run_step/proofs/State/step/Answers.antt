@@ -1,6 +1,6 @@
 -- The look gives what step t works out, and what comes back is what the step hands back.
 use Rattle.std.proofs.Common.{◌≡◌, ℕ, suc, List, ℤ, ◌+ℤ◌, Bool, false, length, sym, ap, ◌∙◌, rules, SFits, to_z, of_z}
-use Rattle.std.proofs.Common.{to_z-of_z, refl, Ok}
+use Rattle.std.proofs.Common.{to_z-of_z, refl, Ok, Err}
 use Rattle.std.proofs.lemmas.List.{map-id}
 use mathlib.Core.Path.{transport}
 use Rattle.std.specs.Int.{w32, w64, int_max}
@@ -142,7 +142,7 @@ unfolding numbered number_of
 returns-in-Err c =
     let P : Problem = problem_of c.args.f.now c.args.coefficient.now in
     let back = c.in-Err.ensures.back in
-    hands-stop P _ (c.stop.ensures ∙ (λ k. record { refusal = back.is k; state = c.args.self }))
+    hands-stop P _ (c.stopped.ensures ∙ (λ k. record { stop = Err (back.is k); state = c.args.self }))
     (refused-9 P c.args.t back.test) c.requires.reached.state
 
 -- the look of the run
@@ -163,7 +163,7 @@ returns-then-move_multipliers c =
     let P : Problem = problem_of c.args.f.now c.args.coefficient.now in
     let looked = c.in-Ok.ensures in
     hands-stop P _
-    (c.stop-then-move_multipliers.ensures ∙ (λ k. record { refusal = c.at.ensures k; state = c.args.self }))
+    (c.stopped-then-move_multipliers.ensures ∙ (λ k. record { stop = Err (c.at.ensures k); state = c.args.self }))
     (refused-10 P c.args.t looked.back.test
     (sym (test-10 c.requires (look-in looked) c.move_multipliers.ensures) ∙ c.if-move_multipliers.true))
     c.requires.reached.state
@@ -188,6 +188,6 @@ returns c =
     let s-are = sums-after c.requires look (simp map-id at c.add.ensures) in
     let t-are = totals-after c.requires look (simp map-id at c.add-2.ensures) in
     let l-is = low-is c.requires look low_fits v-fits fits c.max.ensures.value in
-    hands-state P
+    hands-state P refl
     (not-refused P c.args.t looked.back.test (sym (test-10 c.requires look c.move_multipliers.ensures) ∙ converges))
     (λ k. record { multipliers = m-are k; sums = s-are k; totals = t-are k; low = l-is k })
