@@ -18,9 +18,9 @@ use Rattle.out_record.specs.declared.Head.{Head}
 
 -- the answer of a plan p and of the refusal that was met, if any, with the buffer afterwards
 pub record Ends (p : Plan) (met : Option Numbered) (lent left : List ℕ) (result : Result PlanFigures Refusal) : Type 0
-    where
-  pub answered : outcome result ≡ outcome_of p met
-  pub buffer : left ≡ buffer_of p lent (outcome_of p met)
+  where
+    pub answered : outcome result ≡ outcome_of p met
+    pub buffer : left ≡ buffer_of p lent (outcome_of p met)
 
 -- the figures of an accepted sheet, with the coefficients in a, and a buffer that can take the record
 pub record RunReady (f : Figures) (a : List ℤ) (lent : List ℕ) : Type 0 where

@@ -20,13 +20,12 @@ use sheet_figures::Figures;
 use sheet_read::read_sheet;
 
 // The record and the answer of a run that came to its end.
-fn write_plan(f: Figures, state: State, record: &mut [u8]) -> Result<PlanFigures, Refusal>
-    requires { WriteReady f state «record».old }
-    ensures { Ends (plan_with f state) none «record».old «record».new result }
+fn write_plan(f: &Figures, state: &State, record: &mut [u8]) -> Result<PlanFigures, Refusal>
+    requires { WriteReady f.now state.now «record».old }
+    ensures { Ends (plan_with f.now state.now) none «record».old «record».new result }
 {
     let low = state.low;
-    let sums = state.sums;
-    let gap = gap(&f, &sums, low);
+    let gap = gap(f, &state.sums, low);
     let head = Head {
         materials: f.materials,
         limits: f.limits,
@@ -34,33 +33,35 @@ fn write_plan(f: Figures, state: State, record: &mut [u8]) -> Result<PlanFigures
         low,
         gap: gap,
     };
-    let multipliers = state.multipliers;
-    let totals = state.totals;
-    write_record(record, head, &sums, &multipliers, &totals);
+    write_record(record, head, &state.sums, &state.multipliers, &state.totals);
     Ok(PlanFigures { low, gap })
 }
 
 // The run of a sheet's figures, in a buffer that can take the record.
-fn plan_run(f: Figures, coefficient: &[i16; 512], record: &mut [u8]) -> Result<PlanFigures, Refusal>
-    requires { RunReady f coefficient.now «record».old }
-    ensures { Ends (plan_after (problem_of f coefficient.now) f.steps)
-        (run_refusal (problem_of f coefficient.now) f.steps)
+fn plan_run(
+    f: &Figures,
+    coefficient: &[i16; 512],
+    record: &mut [u8],
+) -> Result<PlanFigures, Refusal>
+    requires { RunReady f.now coefficient.now «record».old }
+    ensures { Ends (plan_after (problem_of f.now coefficient.now) f.now.steps)
+        (run_refusal (problem_of f.now coefficient.now) f.now.steps)
         «record».old «record».new result }
 {
-    let ran = run(&f, coefficient);
+    let ran = run(f, coefficient);
     ran.stop?;
-    write_plan(f, ran.state, record)
+    write_plan(f, &ran.state, record)
 }
 
 // The plan of a sheet's figures, or refusals 8 to 10.
 fn plan_figures(
-    f: Figures,
+    f: &Figures,
     coefficient: &[i16; 512],
     record: &mut [u8],
 ) -> Result<PlanFigures, Refusal>
-    requires { FiguresReady f coefficient.now }
-    ensures { Ends (plan_after (problem_of f coefficient.now) f.steps)
-        (plan_refusal (problem_of f coefficient.now) f.steps (length «record».old))
+    requires { FiguresReady f.now coefficient.now }
+    ensures { Ends (plan_after (problem_of f.now coefficient.now) f.now.steps)
+        (plan_refusal (problem_of f.now coefficient.now) f.now.steps (length «record».old))
         «record».old «record».new result }
 {
     let wanted = record_length(f.materials, f.limits);
@@ -79,5 +80,5 @@ pub fn plan(sheet: &[u8], record: &mut [u8]) -> Result<PlanFigures, Refusal>
 {
     let mut a: [i16; 512] = [0; 512];
     let figures = read_sheet(sheet, &mut a)?;
-    plan_figures(figures, &a, record)
+    plan_figures(&figures, &a, record)
 }

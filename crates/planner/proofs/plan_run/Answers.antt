@@ -37,7 +37,7 @@ unfolding refusal_of
 write_plan-requires c =
     let going = sym c.run-ran.ensures.stop ∙ ap refusal_of c.in_ok-ran.was in
     write-ready _ _
-    (finished c.args.f c.args.coefficient.now c.requires.figures c.run-ran.ensures going) c.requires.room
+    (finished c.args.f.now c.args.coefficient.now c.requires.figures c.run-ran.ensures going) c.requires.room
 
 pub returns : goal.returns
 unfolding refusal_of
@@ -45,6 +45,6 @@ returns c =
     let going = sym c.run-ran.ensures.stop ∙ ap refusal_of c.in_ok-ran.was in
     ends_same
     (plan-in-arrays _ _
-    (finished c.args.f c.args.coefficient.now c.requires.figures c.run-ran.ensures going))
+    (finished c.args.f.now c.args.coefficient.now c.requires.figures c.run-ran.ensures going))
     (sym going)
     c.write_plan.ensures

@@ -13,8 +13,8 @@ use Rattle.planner.proofs.write_plan.Goals as goal
 pub returns : goal.returns
 unfolding plan_with plan_in
 returns c =
-    let f = c.args.f in
-    let w = c.args.state in
+    let f = c.args.f.now in
+    let w = c.args.state.now in
     let low_fits : SFits w64 w.low = search rules in
     let low-is : to_z w64 (of_z w64 w.low) ≡ w.low = to_z-of_z low_fits in
     let gap_fits : SFits w64 c.gap-gap.result = search rules in
