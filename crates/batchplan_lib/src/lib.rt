@@ -25,7 +25,7 @@ use sheet_write::write_sheet;
 // The version of the rules that this library follows.
 const VERSION: usize = 3;
 
-// An answer in plain numbers.
+// An answer in plain numbers, as C takes it.
 #[derive(Drop)]
 struct Numbers {
     // 0 for a plan
@@ -58,7 +58,7 @@ impl From<Result<PlanFigures, Refusal>> for Numbers {
     }
 }
 
-// What writing gives, in plain numbers: 0 and the length, or the number of the refusal and its place.
+// What writing gives, in plain numbers, as C takes it: 0 and the length, or the number of the refusal and its place.
 #[derive(Drop)]
 struct Pair {
     number: usize,
@@ -118,7 +118,7 @@ pub fn batchplan_listing(sheet: &[u8], text: &mut [u8]) -> usize
 
 // Writes the sheet of plain arrays (TASK.md, T10.6): any numbers, into any buffer. It answers 0, with the length of the
 // sheet beside it and the sheet at the start of the buffer; and else the number of the refusal, with its place and the
-// buffer as it was.
+// buffer as it was. Its parameters are those of the C interface.
 pub fn batchplan_write_sheet(
     n: usize,
     m: usize,

@@ -18,7 +18,7 @@ fn unsigned_at(s: &[u8], at: usize, width: usize) -> u64
 }
 
 // The number v of `width` bytes as a signed one, in two's complement: shifted up until its sign bit is the highest of
-// 64, and, with the sign, down again.
+// 64, and, with the sign, down again. The library's `from_le_bytes` are of one width each, and no plainer for all.
 #[tactic(auto, using(crate::proofs::Shifted::signed_shifted))]
 fn signed_of(v: u64, width: usize) -> i64
     requires { InWidth width v }
@@ -45,7 +45,8 @@ pub fn signed_32(s: &[u8], at: usize) -> i32
     signed_at(s, at, 4) as i32
 }
 
-// The unsigned number in the 2 bytes from place `at` on, as a size, a count or a place.
+// The unsigned number in the 2 bytes from place `at` on, as a size, a count or a place. There is no `From` here, and a
+// `TryFrom` wants an unwrap: `as`, which is proved to lose nothing, is plainer, here and wherever sizes are widened.
 pub fn size_at(s: &[u8], at: usize) -> usize
     requires { Inside 2 s.now at }
     ensures { ReadUnsigned 2 s.now at result }

@@ -1,4 +1,5 @@
-// Numbers into a lent buffer, little-endian.
+// Numbers into a lent buffer, little-endian. The place and the width come beside the buffer: the contracts say what
+// the whole buffer holds, which slices would leave to each caller to put together, so that they would be no plainer.
 #![tactic(auto)]
 
 ghost use Rattle.std.specs.Prelude.{◌≡◌};

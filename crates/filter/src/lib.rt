@@ -15,6 +15,7 @@ pub struct ReadFailed {
 }
 
 // Reads until the buffer is full, the input ends or a read fails, however the input is cut, and says how many bytes.
+// A `for` would be no plainer: how far a turn goes is what its read gave.
 pub fn read_input(input: &mut impl Read, buffer: &mut [u8]) -> Result<usize, ReadFailed>
     ensures read { IfOk result (λ filled. filled ≤ length buffer.new) }
     ensures failed { IfErr result (λ error. error.filled ≤ length buffer.new) }

@@ -30,7 +30,7 @@ fn put_plan(out: &mut [u8], record: &[u8], n: usize, m: usize) -> usize
 }
 
 // The lines of the plan that a record holds, as the whole of a text, or none where the bytes hold no record.
-// It answers the text's length.
+// It answers the text's length: 0 is that of no text, as its contract says, and no sign of a refusal.
 pub fn put_record(out: &mut [u8], record: &[u8]) -> usize
     ensures { Begins
         (cond (holds_record «record».now) (plan_text (recorded «record».now)) [])

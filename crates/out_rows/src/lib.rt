@@ -32,7 +32,8 @@ pub fn put_materials(text: &mut Text, record: &[u8], n: usize)
     }
 }
 
-// The line of a limit, in a record with the places where its multipliers and its residual totals begin.
+// The line of a limit, in a record with the places where its multipliers and its residual totals begin: parameters of
+// two functions, for which a struct would be no plainer.
 fn put_limit(text: &mut Text, record: &[u8], multipliers: usize, totals: usize, i: usize)
     requires { LimitsInside «record».now multipliers totals (suc i) }
     ensures { Grows (limit_line «record».now multipliers totals i) text.old text.new }

@@ -37,7 +37,8 @@ fn value_at_ends(f: &Figures, sign: i64) -> i64
     scaled_cost(f, &ends)
 }
 
-// D times the greatest cost that the bounds allow (T4.6).
+// D times the greatest cost that the bounds allow (T4.6). docs/PROMISES.md names this function and the next, each one
+// call with a sign.
 pub fn greatest_value(f: &Figures) -> i64
     requires { CostFits (materials_of f.now) (greatest_end (materials_of f.now)) }
     ensures { result ≡ pos f.now.scale *ℤ greatest_cost (materials_of f.now) }

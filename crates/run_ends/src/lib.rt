@@ -18,7 +18,7 @@ pub fn end_by(weight: i64, least: i16, most: i16) -> i16
 }
 
 // The end of the bounds of each material that its cost chooses, or, where the sign is -1, the cost's opposite: into an
-// array of zeros.
+// array of zeros. The sign is a factor and no switch: a function in its place would be no plainer.
 pub fn choose_ends(f: &Figures, sign: i64, ends: &mut [i16; 32])
     requires { EndsFit f.now.materials sign ends.old }
     ensures { ends.new ≡ padded 32 (tabulate f.now.materials (signed_end sign (materials_of f.now))) }

@@ -7,7 +7,7 @@ ghost use Rattle.run_moves.specs.Moves.{limits_of, MoveFits, Moved};
 use sheet_figures::Figures;
 
 // The move of the multipliers in place, each from its old one. It ends before the first that diverged, and answers
-// whether there is one.
+// whether there is one: a `Result` with nothing on either side would be no plainer.
 pub fn move_multipliers(f: &Figures, multipliers: &mut [i32; 16], residuals: &[i32; 16]) -> bool
     requires { MoveFits (limits_of f.now) (at multipliers.old) (at residuals.now) }
     ensures { Moved (limits_of f.now) (at residuals.now)

@@ -1,5 +1,5 @@
 -- What the functions of a step ask follows from the magnitudes of the run.
-use Rattle.std.specs.Prelude.{◌≡◌, refl, List, ℕ, ◌≤◌, ℤ, pos, ◌+ℤ◌, ◌*ℤ◌, replicate}
+use Rattle.std.specs.Prelude.{◌≡◌, refl, List, [], ℕ, ◌≤◌, ℤ, pos, ◌+ℤ◌, ◌*ℤ◌, replicate}
 use Rattle.std.proofs.Common.{sym, ap, subst, lt_of_lt_of_le, SFits}
 use Rattle.std.proofs.Math.IntN.{+ℤ_idl}
 use Rattle.std.specs.Int.{w32, w64}
@@ -7,19 +7,26 @@ use Rattle.proof_integer.specs.Range.{bnd-sfits}
 use Rattle.proof_integer.specs.Sum.{sum_to-cong}
 use Rattle.rules.specs.Notation.{sum_to, at}
 use Rattle.rules.specs.Problem.{Problem, cost_of, load_of}
-use Rattle.rules.specs.Step.{residual}
+use Rattle.rules.specs.Step.{reduced_cost, amount, residual, dual_value, look_at}
 use Rattle.rules.specs.Run.{state_after, look_after}
 use Rattle.proof_magnitudes.specs.Accepted.{Accepted}
 use Rattle.proof_magnitudes.specs.Steps.{entering, amounts, residuals, residuals-are}
 use Rattle.proof_magnitudes.specs.RunMagnitudes.{RunMagnitudes}
 use Rattle.sheet_figures.specs.declared.Figures.{Figures}
-use Rattle.sheet_figures.specs.Figures.{problem_of}
+use Rattle.sheet_figures.specs.Figures.{started_in, problem_of}
 use Rattle.run_sums.specs.SumsFit.{SumFits}
 use Rattle.run_costs.specs.OfRun.{cost-fits}
 use Rattle.run_amounts.specs.Amounts.{AmountsFit}
 use Rattle.run_look.specs.LookFits.{ResidualsFit, LookFits}
 use Rattle.run_moves.specs.Moves.{limits_of, MoveFits}
 use Rattle.run_totals.specs.Totals.{TotalsFit}
+
+-- for a look that is lent no step numerator and no starts: it is the same look
+pub same-look : (f : Figures) (a : List ℤ) (M : ℕ → ℤ)
+    → look_at (started_in f.materials f.limits 0 f.scale f.cost f.least f.most a f.rhs []) M
+    ≡ look_at (problem_of f a) M
+unfolding look_at amount reduced_cost residual load_of dual_value cost_of
+same-look f a M = refl
 
 module _ (f : Figures) (a : List ℤ) {k : ℕ} (accepted : Accepted (problem_of f a) k) (t : ℕ)
     (large : RunMagnitudes (problem_of f a) t) where

@@ -20,7 +20,9 @@ pub fn dot<T: Total>(count: usize, first: T, x: &[T::Part], y: &[T::Part]) -> T
     sum
 }
 
-// `first`, and Σ_i x_i·a_(from+stride·i) over the first m places of x, in 64 bits: x times a column of a.
+// `first`, and Σ_i x_i·a_(from+stride·i) over the first m places of x, in 64 bits: x times a column of a. It is no
+// instance of `dot`: a column has a stride, and i16 stand beside i32. There is one instance, so that a generic function
+// would be no plainer.
 pub fn dot_column_64(m: usize, first: i64, x: &[i32], a: &[i16], from: usize, stride: usize) -> i64
     requires { ColumnFits m first x.now a.now from stride }
     ensures { result ≡ first +ℤ sum_to m (λ i. at x.now i *ℤ at a.now (from + stride * i)) }

@@ -34,7 +34,7 @@ unfoldable pub coefficients_over : List ℤ → Problem → List ℤ
 coefficients_over lent P = put_rows lent P.limits P.materials P.coefficient
 
 -- ---- the problem whose figures stand in arrays, with multipliers that begin at s
-abbrev started_in : (n m p D : ℕ) → (c l u a b s : List ℤ) → Problem
+abbrev pub started_in : (n m p D : ℕ) → (c l u a b s : List ℤ) → Problem
 started_in n m p D c l u a b s = record {
   materials = n;
   limits = m;

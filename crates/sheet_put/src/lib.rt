@@ -12,7 +12,7 @@ ghost use Rattle.sheet_put.specs.Ready.{FigureReady};
 use bytes_write::{put_signed, put_unsigned};
 use rules::Sizes;
 
-// The six sizes of a sheet of e entries.
+// The six sizes of a sheet of e entries. What e counts is not the buffer's length: it stands in the sheet.
 pub fn put_sizes(sheet: &mut [u8], sizes: Sizes, e: usize)
     requires { Room 0 12 sheet.old }
     ensures { sheet.new ≡ written (size_bytes sizes e) sheet.old }

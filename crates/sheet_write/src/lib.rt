@@ -27,7 +27,7 @@ fn count_entries(arrays: &Arrays) -> usize
         + present_in(arrays.starts)
 }
 
-// The sheet of e entries to the start of a buffer that takes it.
+// The sheet of e entries to the start of a buffer that takes it. What e counts is not the buffer's length.
 fn put_sheet(sheet: &mut [u8], e: usize, sizes: Sizes, arrays: &Arrays)
     requires { SheetReady e sizes arrays.now sheet.old }
     ensures { sheet.new ≡ written (sheet_from sizes arrays.now) sheet.old }
