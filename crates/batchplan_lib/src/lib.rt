@@ -142,7 +142,7 @@ pub fn batchplan_write_sheet(
         limits: m,
     };
     let sizes = Sizes {
-        shape: shape,
+        shape,
         numerator: p,
         scale: d,
         steps: k,

@@ -1,5 +1,6 @@
 // What C and Rust call, and nothing else: each function is that of `batchplan_lib`, with its promise.
-// `library/include/batchplan.h` declares them for C.
+// `library/include/batchplan.h` declares them for C. It stands apart, since an archive for C cannot be the library of
+// another crate (docs/DECISIONS.md, section 7).
 #![tactic(auto)]
 
 ghost use Rattle.std.specs.Prelude.{◌≤◌, ◌≡◌, length};
@@ -41,7 +42,7 @@ pub extern "C" fn batchplan_listing(sheet: &[u8], text: &mut [u8]) -> usize
 
 // Writes the sheet of plain arrays (TASK.md, T10.6): any numbers, into any buffer. It answers 0, with the length of the
 // sheet beside it and the sheet at the start of the buffer; and else the number of the refusal, with its place and the
-// buffer as it was.
+// buffer as it was. The arrays come one by one, as C lends them.
 #[unsafe(no_mangle)]
 pub extern "C" fn batchplan_write_sheet(
     n: usize,

@@ -1,11 +1,13 @@
-// Little-endian numbers out of a slice of bytes.
+// Little-endian numbers out of a slice of bytes, at a place, as the layouts say places: to cut a part of the width is
+// no plainer for the callers.
 #![tactic(auto)]
 
 ghost use Rattle.std.specs.Prelude.{◌≡◌};
 ghost use Rattle.rules.specs.Bytes.{signed_of, signed_at};
 ghost use Rattle.bytes_read.specs.Inside.{Inside, ReadUnsigned, InWidth};
 
-// The unsigned number in the `width` bytes from place `at` on.
+// The unsigned number in the `width` bytes from place `at` on. By a loop and not by `from_le_bytes`, since the edit
+// `digits_by_255` is about its step.
 fn unsigned_at(s: &[u8], at: usize, width: usize) -> u64
     requires { Inside width s.now at }
     ensures { ReadUnsigned width s.now at result }

@@ -14,6 +14,7 @@ pub fn put_unsigned(d: &mut [u8], at: usize, width: usize, v: u64)
 {
     let mut rest = v;
     for byte in &mut d[at..at + width] {
+        // `as` to a narrower type: a `TryFrom` that cannot fail is no plainer
         *byte = (rest % 256) as u8;
         rest /= 256;
     }

@@ -40,8 +40,8 @@ fn print_text(rt: &(impl Print + Eprint), name: &str, text: &[u8]) {
     }
 }
 
-// A program that is a filter. It reads a sheet, and writes the text that `work` puts into the room and ends at the
-// place that it answers. Where the sheet cannot be read, the program says so on standard error, after its name.
+// A program that is a filter. It reads a sheet, and writes the text that `work` puts into the room; `work` answers
+// where the text ends. Where the sheet cannot be read, the program says so on standard error, after its name.
 pub fn run<W: FnOnce(&[u8], &mut [u8]) -> usize>(
     rt: &(impl Print + Eprint),
     input: &mut impl Read,

@@ -79,6 +79,7 @@ impl<'a, const AFTER: usize> Iterator for Frames<'a, AFTER> {
 }
 
 // The frames of an input, which is read into the room: to its end, or until the room is full or a read fails.
+// The six programs loop over them by a `for` of one call: a function that takes the call is no plainer.
 pub fn read_frames<'a, const AFTER: usize>(
     input: &mut impl Read,
     room: &'a mut [u8],

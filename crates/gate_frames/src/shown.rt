@@ -10,6 +10,7 @@ pub fn fill(buffer: &mut [u8])
     ensures { EachIndex buffer.new (λ i. slice_index buffer.new i ≡ (7 * i + 3) % 256) }
 {
     for (i, byte) in buffer.iter_mut().enumerate() {
+        // `as` to a narrower type: a `TryFrom` that cannot fail is no plainer
         *byte = ((7 * (i % 256) + 3) % 256) as u8;
     }
 }

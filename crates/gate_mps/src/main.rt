@@ -29,6 +29,7 @@ fn print_text(output: &impl Print, sheet: &[u8], buffer: &mut [u8]) {
 }
 
 // Lends a buffer to the text of a sheet. There is none where the frame asks for a longer one.
+// `gate_plan` does so with another room and another call: a function that takes the two is no plainer.
 fn print_frame(output: &impl Print, frame: &Frame<2>) -> Option<()> {
     let mut room = [b'.'; LENT];
     let lent = usize::from(u16::from_le_bytes(*frame.after));

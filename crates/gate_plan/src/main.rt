@@ -31,6 +31,7 @@ fn print_plan(output: &impl Print, sheet: &[u8], buffer: &mut [u8]) {
 }
 
 // Lends a buffer to the plan of a sheet. There is none where the frame asks for a longer one.
+// `gate_mps` does so with another room and another call: a function that takes the two is no plainer.
 fn print_frame(output: &impl Print, frame: &Frame<2>) -> Option<()> {
     let mut room = [0u8; LENT];
     let lent = usize::from(u16::from_le_bytes(*frame.after));

@@ -43,7 +43,7 @@ fn print_output(output: &impl Print, answer: Result<usize, Refusal>, buffer: &[u
     };
 }
 
-// The unsigned number of 4 bytes at a place.
+// The unsigned number of 4 bytes at a place. `u32::from_le_bytes` wants them as an array, and to cut it is no plainer.
 fn number_at(head: &[u8; HEAD], at: usize) -> usize
     requires { at + 4 ≤ 34 }
 {

@@ -1,5 +1,6 @@
 // Where the record has its fields (T6.1): each begins where the one before ends.
-// A change of places is made here and in `rules`.
+// A change of places is made here and in `rules`. n and m are two numbers, as in the definitions (`totals_at n m`), and
+// no caller has a `Shape`.
 #![tactic(auto)]
 
 ghost use Rattle.std.specs.Prelude.{◌≡◌, ◌≤◌};

@@ -38,6 +38,7 @@ pub fn put_line(text: &mut Text, word: &[u8], figures: &[i64])
 }
 
 // A space and a number that is not negative. It has at most 20 digits.
+// To u64 by `as`, since usize has no `From` to it, and a `TryFrom` that cannot fail is no plainer.
 fn put_size(text: &mut Text, v: usize)
     ensures puts { Grows (ascii " " ++ decimal (pos v)) text.old text.new }
     ensures v_len_bound { length (decimal (pos v)) ≤ 20 }

@@ -10,6 +10,7 @@ use out_numbers::{put_integer, put_number};
 use out_text::Text;
 
 // What stands before the number of a name, and the number.
+// To u64 by `as`, since usize has no `From` to it, and a `TryFrom` that cannot fail is no plainer.
 pub fn put_name(text: &mut Text, front: &[u8], number: usize)
     ensures { Grows (front.now ++ decimal (pos number)) text.old text.new }
 {

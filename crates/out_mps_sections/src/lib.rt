@@ -1,6 +1,7 @@
 // Sections of a free MPS text (T14.3), without the lines that name them, put at the end of a text. The figures stand in
 // arrays as `sheet_figures` has them. One function for all, which takes what puts a line, is no plainer: each is a
-// `for` of one call, and the contract says which lines.
+// `for` of one call, and the contract says which lines. `i64::from` was tried in place of `as i64`: the proof then
+// wants two laws of conversion for a figure in place of one.
 #![tactic(auto)]
 
 ghost use Rattle.std.specs.Prelude.{◌+◌, ◌*◌, ◌≤◌};

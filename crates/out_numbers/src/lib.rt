@@ -28,6 +28,7 @@ fn set_byte(bytes: &mut [u8], place: usize, byte: u8)
 
 // A number in decimal. Its digits are worked out from the last one on, and go to their places. Where the text ends past
 // the bytes already, none has a place, and its end may be too large to add to.
+// `as` is to types that a digit fits: a `TryFrom` that cannot fail is no plainer.
 // By hand: the kit's `itoa`, whose digits are then copied, takes twice as long (docs/DECISIONS.md, section 6).
 pub fn put_number(text: &mut Text, v: u64)
     ensures { Grows (decimal (pos v)) text.old text.new }

@@ -25,6 +25,7 @@ pub struct Head {
 }
 
 // n, m and k; low and gap.
+// To u64 by `as`, since usize has no `From` to it, and a `TryFrom` that cannot fail is no plainer.
 fn put_head(record: &mut [u8], head: Head)
     requires { Room 0 sums_at «record».old }
     ensures { «record».new ≡ written (head_bytes head) «record».old }

@@ -13,6 +13,7 @@ use out_lines::put_line;
 use out_text::Text;
 
 // The line of a material.
+// To i64 by `as`, since usize has no `From` to it, and a `TryFrom` that cannot fail is no plainer.
 fn put_material(text: &mut Text, record: &[u8], j: usize)
     requires { MaterialsInside «record».now (suc j) }
     ensures { Grows (material_line «record».now j) text.old text.new }

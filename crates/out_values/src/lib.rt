@@ -1,4 +1,5 @@
 // Lines of single figures of a record: the step count, and the values of 8 bytes. Each is put at the end of a text.
+// They are read as another kind of number each, and one function for both is no plainer.
 #![tactic(auto)]
 
 ghost use Rattle.std.specs.Prelude.{[], ◌∷◌};
@@ -15,6 +16,7 @@ use out_lines::put_line;
 use out_text::Text;
 
 // The line of the step count.
+// To i64 by `as`, since usize has no `From` to it, and a `TryFrom` that cannot fail is no plainer.
 pub fn put_steps(text: &mut Text, record: &[u8])
     requires { Inside 2 «record».now steps_at }
     ensures { Grows (steps_line «record».now) text.old text.new }

@@ -13,6 +13,7 @@ use run_sums::dot_column_64;
 use sheet_figures::Figures;
 
 // The amount of material j.
+// To i64 by `as`, since usize has no `From` to it, and a `TryFrom` that cannot fail is no plainer.
 fn amount_at(f: &Figures, coefficient: &[i16; 512], multipliers: &[i32; 16], j: usize) -> i16
     requires { AmountFits (problem_of f.now coefficient.now) (at multipliers.now) j }
     ensures { result ≡ amount (problem_of f.now coefficient.now) (at multipliers.now) j }

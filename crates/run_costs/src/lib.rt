@@ -18,6 +18,7 @@ use run_sums::{dot, dot_column_64};
 use sheet_figures::Figures;
 
 // D times the cost of amounts.
+// To i64 by `as`, since usize has no `From` to it, and a `TryFrom` that cannot fail is no plainer.
 pub fn scaled_cost(f: &Figures, amounts: &[i16; 32]) -> i64
     requires { CostFits (materials_of f.now) (at amounts.now) }
     ensures { result ≡ pos f.now.scale *ℤ cost_of (materials_of f.now) (at amounts.now) }
@@ -54,8 +55,8 @@ pub fn cheapest_value(f: &Figures) -> i64
     value_at_ends(f, 1)
 }
 
-// A difference. It may be negative. It is a function of its own, since the check proves such a one by itself: a gap
-// that is clipped fails at a fact, and not at the text of the proof of `gap`.
+// A difference, which may be negative. It is a function of its own so that a clipped gap (`gap_clipped`) fails at a
+// fact, and not at the text of the proof of `gap`.
 fn difference(from: i64, less: i64) -> i64
     requires { SFits w64 (from -ℤ less) }
     ensures { result ≡ from -ℤ less }

@@ -13,6 +13,7 @@ pub fn move_multipliers(f: &Figures, multipliers: &mut [i32; 16], residuals: &[i
     ensures { Moved (limits_of f.now) (at residuals.now)
         multipliers.old multipliers.new result }
 {
+    // `as` here and below: a `TryFrom` that cannot fail is no plainer
     let p = f.numerator as i64;
     for i in 0..f.limits {
         let uncut = i64::from(multipliers[i]) + p * i64::from(residuals[i]);

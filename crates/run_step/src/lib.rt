@@ -14,7 +14,7 @@ use run_moves::move_multipliers;
 use run_totals::add;
 use sheet_figures::Figures;
 
-// The state of the run.
+// The state of the run, in arrays of fixed lengths as `Figures` has them: there is no heap.
 #[derive(Clone, Copy)]
 pub struct State {
     // M_i at place i

@@ -8,6 +8,7 @@ ghost use Rattle.run_sums.specs.SumsFit.{PairsFit, ColumnFits};
 use run_arithmetic::Total;
 
 // `first`, and Σ_i x_i·y_i over the first `count` places: of i16 in 32 bits, and of i32 in 64.
+// The count stands beside the slices: without it each of the three callers would cut both arrays to n or m places.
 pub fn dot<T: Total>(count: usize, first: T, x: &[T::Part], y: &[T::Part]) -> T
     requires { PairsFit T.width count (T.value first) (map T.part_value x.now) (map T.part_value y.now) }
     ensures { T.value result ≡ T.value first

@@ -9,7 +9,7 @@ ghost use Rattle.run_totals.specs.Totals.{TotalsFit};
 use run_arithmetic::Total;
 
 // What one step gives, added to the totals in place: amounts of i16 to sums of i32, and residuals of i32 to residual
-// totals of i64.
+// totals of i64. The count stands beside them: without it each caller would cut both arrays to n or m places.
 pub fn add<T: Total>(count: usize, totals: &mut [T], more: &[T::Part])
     requires { TotalsFit T.width (length totals.old) (length more.now) count
         (at (map T.value totals.old)) (at (map T.part_value more.now)) }

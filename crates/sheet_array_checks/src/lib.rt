@@ -32,14 +32,14 @@ fn outside(kind: Kind, figure: i32) -> bool
     figure != 0 && !in_range(kind, figure)
 }
 
-// Whether some figure of an array is.
+// Whether an array has such a figure.
 fn any_outside(kind: Kind, figures: &[i32]) -> bool
     ensures { result ≡ any_outside kind figures.now }
 {
     figures.iter().any(|figure| outside(kind, *figure))
 }
 
-// Whether some figure of some array is.
+// Whether one of the arrays has.
 fn figures_outside(arrays: &Arrays) -> bool
     ensures { result ≡ arrays_outside arrays.now }
 {

@@ -1,5 +1,10 @@
 // A sheet's figures in arrays, for the run. The coefficients, which are many, stand in an array of their own that is
 // lent: a_ij at place 32 i + j. What stands at which place is said in specs/.
+//
+// No struct lends both: eleven functions take the figures alone, and of the lent array `read_sheet` promises what it
+// keeps (`Reads`). No invariant says that n is at most 32 and m at most 16: `figures_of` makes figures of any problem.
+// The arrays have fixed lengths, with n and m beside them, as there is no heap; and there is one for each kind of
+// figure, since a sum of products takes the costs as they lie.
 #![tactic(auto)]
 
 // Places from n and from m on hold 0.

@@ -1,4 +1,4 @@
-// The header of a sheet: its sizes, refusal 1, and refusals 2 to 4.
+// The header of a sheet: its sizes, or none (refusal 1), and refusals 2 to 4.
 #![tactic(auto)]
 
 ghost use Rattle.std.specs.Prelude.{◌≡◌, length};
@@ -14,6 +14,7 @@ use sheet_sizes::{dimensions_in_range, parameters_in_range};
 const HEADER: usize = 12;
 
 // The header of a sheet: its sizes, e, and how long the header is, which is where the keys begin.
+// It does not hold the sheet's bytes: `header_read` is a value, and each pass asks more of both than the one before it.
 #[derive(Clone, Copy)]
 pub struct Header {
     pub sizes: Sizes,

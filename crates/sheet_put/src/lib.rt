@@ -13,6 +13,7 @@ use bytes_write::{put_signed, put_unsigned};
 use rules::Sizes;
 
 // The six sizes of a sheet of e entries. What e counts is not the buffer's length: it stands in the sheet.
+// To u64 by `as`, since usize has no `From` to it, and a `TryFrom` that cannot fail is no plainer.
 pub fn put_sizes(sheet: &mut [u8], sizes: Sizes, e: usize)
     requires { Room 0 12 sheet.old }
     ensures { sheet.new ≡ written (size_bytes sizes e) sheet.old }
@@ -35,7 +36,7 @@ pub struct EntryWriter<'a> {
     pub count: usize,
 }
 
-impl<'a> EntryWriter<'a> {
+impl EntryWriter<'_> {
     // The entry of a figure under its key. A figure of 0 has none.
     pub fn put_figure(&mut self, key: usize, figure: i32)
         requires { FigureReady key figure self.old }

@@ -54,7 +54,7 @@ fn range_of(kind: Kind) -> Range
     RANGES[kind as usize]
 }
 
-// Whether a value lies in the range of its kind.
+// Whether a value lies in the range of its kind: two comparisons, which two edits change, and not `contains`.
 pub fn in_range(kind: Kind, value: i32) -> bool
     ensures { result ≡ in_range (range_of kind) value }
 {

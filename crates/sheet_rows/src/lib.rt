@@ -1,4 +1,5 @@
-// The figures of a sheet into a lent buffer, row by row, from plain arrays.
+// The figures of a sheet into a lent buffer, row by row, from plain arrays. What `EntriesReady` asks is no invariant of
+// the writer: each function asks it of entries of its own, and of arrays that the writer does not have.
 #![tactic(auto)]
 
 ghost use Rattle.std.specs.Prelude.{◌<◌, length};

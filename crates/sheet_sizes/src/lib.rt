@@ -6,7 +6,8 @@ ghost use Rattle.rules.specs.Ranges.{between, dimensions_in_range, parameters_in
 
 use rules::{Shape, Sizes};
 
-// Whether a size lies from its least to its greatest.
+// Whether a size lies from its least to its greatest. Compared as the definition has it: the library's `contains` of a
+// range speaks of an order (`partial_le`), and is no plainer to prove from.
 #[tactic(auto, unfolding(rules::specs::Ranges::between))]
 fn between(least: usize, greatest: usize, size: usize) -> bool
     ensures { result ≡ between least greatest size }
@@ -14,7 +15,8 @@ fn between(least: usize, greatest: usize, size: usize) -> bool
     (least <= size) & (size <= greatest)
 }
 
-// Whether n, m and e lie in their ranges. The product is formed where n and m do.
+// Whether n, m and e lie in their ranges. The product is formed where n and m do. It answers of any shape, so that a
+// `Shape` has no invariant.
 pub fn dimensions_in_range(shape: Shape, e: usize) -> bool
     ensures { result ≡ dimensions_in_range shape e }
 {

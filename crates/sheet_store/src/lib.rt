@@ -14,7 +14,7 @@ use sheet_header::Header;
 use sheet_table::{Table, place_at};
 
 // Refusal 6: the first entry whose value is bad. The values of the entries before it are stored, each under its key.
-// No key is bad here, so that it is the value where an entry is.
+// No key is bad here: where an entry is refused, its value is.
 pub fn store_entries(s: &[u8], header: Header, table: &mut Table) -> Result<(), Refusal>
     requires { ReadyToStore s.now header table.old }
     ensures result_value { refusal_of result ≡ value_refusal (sheet_of s.now) }

@@ -5,7 +5,7 @@ ghost use Rattle.std.specs.Prelude.{◌≡◌};
 ghost use Rattle.sheet_table.specs.Tabled.{InTable, place_at};
 
 // The array. It is no struct with methods: that would hold this array alone, and each contract would name its field
-// where `table_in` and `tabled` name the array.
+// where `table_in` and `tabled` name the array. And it is no map: there is no heap.
 pub type Table = [i32; 646];
 
 // Where the figure at a row and a column stands.

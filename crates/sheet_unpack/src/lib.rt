@@ -13,7 +13,8 @@ use rules::Sizes;
 use sheet_figures::Figures;
 use sheet_table::{Table, place_at};
 
-// The first figures of a row, as many as there are places for, in 16 bits.
+// The first figures of a row, as many as there are places for, in 16 bits. They fit (`RowFits`), and a `TryFrom` that
+// cannot fail is no plainer than `as`.
 fn take_row(table: &Table, row: usize, to: &mut [i16])
     requires { RowFits table.now row (length to.old) }
     ensures { to.new
