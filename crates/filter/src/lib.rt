@@ -33,8 +33,9 @@ pub fn read_input(input: &mut impl Read, buffer: &mut [u8]) -> Result<usize, Rea
     Ok(filled)
 }
 
-// Writes a text to standard output. Where that fails, the program says so on standard error, after its name.
-fn print_text(rt: &(impl Print + Eprint), name: &str, text: &[u8]) {
+// for a program that is no filter: writes a text to standard output. Where that fails, the program says so on standard
+// error, after its name.
+pub fn print_text(rt: &(impl Print + Eprint), name: &str, text: &[u8]) {
     if rt.write_all(text).is_err() {
         let _ = eprintln!(rt; "{name}: cannot write to standard output");
     }
