@@ -6,6 +6,7 @@ use lib.Pow.{pow-add}
 use Rattle.std.specs.Int.Signed.{mag}
 use mir.Facts.{to_z-of_z}
 use Rattle.rules.specs.Bytes.{unsigned_bytes, signed_bytes}
+use Rattle.bytes_write.specs.Written.{written_at}
 use Rattle.bytes_write.proofs.put_signed.Goals as goal
 
 -- what 256^w is added to v any number of times has the same w bytes
@@ -39,4 +40,6 @@ returns c =
     let args = c.args in
     let bits : c.cast_unsigned.result ≡ of_z w64 args.v =
     c.cast_unsigned.ensures ∙ ap (of_z w64) (to_z-of_z c.ranges.v) in
-    rw (c.put_unsigned.ensures, bits, bytes args.width args.v c.requires.narrow (omega (arith, c.requires.small)))
+    let same = bytes args.width args.v c.requires.narrow (omega (arith, c.requires.small)) in
+    c.put_unsigned.ensures
+    ∙ ap (λ bs. written_at args.at bs args.d.now) (ap (unsigned_bytes args.width) bits ∙ same)

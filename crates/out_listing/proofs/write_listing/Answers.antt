@@ -1,5 +1,5 @@
 -- The text is put into room that takes every text, and from there to the lent bytes where they can take it.
-use Rattle.std.proofs.Common.{◌≤◌, sym, ap, ◌∙◌, length, drop, arith, rules}
+use Rattle.std.proofs.Common.{◌≤◌, ◌++◌, sym, ◌∙◌, length, drop, arith, rules}
 use Rattle.out_listing.specs.WholeText.{begun, listed-is, not_listed}
 use Rattle.out_listing.proofs.write_listing.Goals as goal
 use Rattle.out_listing.proofs.write_listing.Goals.{After-put_answer-end}
@@ -33,4 +33,4 @@ pub returns-clause-listed : goal.returns-clause-listed
 returns-clause-listed c =
     let (is, ends) = begun c.put_answer-end.ensures (search rules) in
     let copied = c.copy_from_slice.ensures.after in
-    listed-is (rw (ap (λ n. drop n c.args.out.now) ends, copied ∙ is)) ends (rw (sym ends) (omega arith))
+    listed-is (λ k. (copied ∙ is) k ++ drop (ends k) c.args.out.now) ends (rw (sym ends) (omega arith))

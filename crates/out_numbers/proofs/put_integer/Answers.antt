@@ -1,5 +1,5 @@
 -- A sign where the number is below 0, and then the digits of its magnitude.
-use Rattle.std.proofs.Common.{rules, ◌≡◌, sym, ◌∙◌, true, false, [], ◌∷◌, ◌++◌, ℕ, ℤ, pos, negsuc, to_z-of_z, arith}
+use Rattle.std.proofs.Common.{rules, ◌≡◌, sym, ap, ◌∙◌, true, false, [], ◌∷◌, ◌++◌, ℕ, ℤ, pos, negsuc, to_z-of_z, arith}
 use Rattle.std.specs.Prelude.{nat_abs}
 use Rattle.std.specs.Int.{is_negative}
 use Rattle.rules.specs.Listing.{text, decimal}
@@ -23,7 +23,7 @@ returns c =
     let v = c.args.v in
     let magnitude : c.unsigned_abs.result ≡ nat_abs v =
     simp (to_z-of_z c.ranges.v) at c.unsigned_abs.ensures.value in
-    let sign : c.is_negative.result ≡ is_negative v = simp (to_z-of_z c.ranges.v) at c.is_negative.ensures in
+    let sign : c.is_negative.result ≡ is_negative v = c.is_negative.ensures ∙ ap is_negative (to_z-of_z c.ranges.v) in
     let most = c.unsigned_abs.ensures.bound in
     elim c.if-is_negative.branch [
       | then-is_negative w ↦

@@ -1,5 +1,6 @@
 -- The look is that of the run, and what comes back is the state with low, or refusal 9 with the state as it was.
-use Rattle.std.proofs.Common.{◌≡◌, ℕ, List, ℤ, Err, refl, ◌∙◌, rules, SFits, to_z, of_z, to_z-of_z}
+use Rattle.std.proofs.Common.{◌≡◌, ℕ, List, ℤ, Err, refl, sym, ◌∙◌, rules, SFits, to_z, of_z, to_z-of_z}
+use Rattle.std.proofs.Math.Path.{transport}
 use Rattle.std.specs.Int.{w64, int_max}
 use Rattle.rules.specs.Notation.{maxℤ}
 use Rattle.rules.specs.Problem.{Problem}
@@ -31,7 +32,13 @@ module _ {f : Figures} {a : List ℤ} {greatest : ℤ} {count : ℕ} {w : State}
 
 pub look-requires : goal.look-requires
 look-requires c =
-    record { ready = rw (to_z-of_z c.ranges.greatest) c.requires; no-amounts = refl; no-residuals = refl }
+    let a = c.args in
+    let greatest = sym (to_z-of_z c.ranges.greatest) in
+    record {
+      ready = transport (λ k. LookReady a.f.now a.coefficient.now (greatest k) a.count a.w) c.requires;
+      no-amounts = refl;
+      no-residuals = refl;
+    }
 
 pub returns-in-Err : goal.returns-in-Err
 unfolding numbered number_of

@@ -77,40 +77,40 @@ unfolding refusal_of
 returns-in_err-check_arrays c =
     let err = err_from_is_err_and c.from_residual.result c.from_residual.ensures.1 in
     rw (err.1, err.2)
-    (refused c.args.sizes c.args.arrays.now c.args.sheet.now _ (cc c.in_err-check_arrays.ensures))
+    (refused c.args.sizes c.args.arrays.now c.args.sheet.now _ c.in_err-check_arrays.ensures)
 
 pub count_entries-e-requires : goal.count_entries-e-requires
 unfolding refusal_of
 count_entries-e-requires c =
-    let passed : Passed c.args.sizes c.args.arrays.now = record { is = cc c.in_ok-check_arrays.ensures } in
+    let passed : Passed c.args.sizes c.args.arrays.now = record { is = c.in_ok-check_arrays.ensures } in
     short passed
 
 pub overflow_mul-wanted : goal.overflow_mul-wanted
 unfolding refusal_of
 overflow_mul-wanted c =
-    let passed : Passed c.args.sizes c.args.arrays.now = record { is = cc c.in_ok-check_arrays.ensures } in
+    let passed : Passed c.args.sizes c.args.arrays.now = record { is = c.in_ok-check_arrays.ensures } in
     record { fits = omega (arith, few passed c.count_entries-e.ensures) }
 
 pub overflow_add-wanted : goal.overflow_add-wanted
 unfolding refusal_of
 overflow_add-wanted c =
-    let passed : Passed c.args.sizes c.args.arrays.now = record { is = cc c.in_ok-check_arrays.ensures } in
+    let passed : Passed c.args.sizes c.args.arrays.now = record { is = c.in_ok-check_arrays.ensures } in
     record { fits = omega (arith, few passed c.count_entries-e.ensures) }
 
 pub returns-then-sheet-wanted : goal.returns-then-sheet-wanted
 unfolding refusal_of
 returns-then-sheet-wanted c =
-    let passed : Passed c.args.sizes c.args.arrays.now = record { is = cc c.in_ok-check_arrays.ensures } in
+    let passed : Passed c.args.sizes c.args.arrays.now = record { is = c.in_ok-check_arrays.ensures } in
     lacking passed c.count_entries-e.ensures c.args.sheet.now c.at.ensures c.if-sheet-wanted.true
 
 pub put_sheet-requires : goal.put_sheet-requires
 unfolding refusal_of
 put_sheet-requires c =
-    let passed : Passed c.args.sizes c.args.arrays.now = record { is = cc c.in_ok-check_arrays.ensures } in
+    let passed : Passed c.args.sizes c.args.arrays.now = record { is = c.in_ok-check_arrays.ensures } in
     sheet-ready passed c.count_entries-e.ensures c.args.sheet.now c.if-sheet-wanted.false
 
 pub returns : goal.returns
 unfolding refusal_of
 returns c =
-    let passed : Passed c.args.sizes c.args.arrays.now = record { is = cc c.in_ok-check_arrays.ensures } in
+    let passed : Passed c.args.sizes c.args.arrays.now = record { is = c.in_ok-check_arrays.ensures } in
     wrote passed c.count_entries-e.ensures c.args.sheet.now c.if-sheet-wanted.false c.put_sheet.ensures
