@@ -5,8 +5,8 @@ ghost use Rattle.std.specs.Prelude.{◌≡◌, ◌≤◌, ◌⊎◌, length, IfO
 
 use std::io::{Print, Read};
 
-// The room for a sheet: one byte more than the longest has (T2.6).
-const BYTES: usize = 3853;
+// for a program that reads a sheet by `read_input`: the room for it, one byte more than the longest has (T2.6).
+pub const BYTES: usize = 3853;
 
 // A read failed, after so many bytes.
 #[derive(Drop)]
@@ -33,9 +33,25 @@ pub fn read_input(input: &mut impl Read, buffer: &mut [u8]) -> Result<usize, Rea
     Ok(filled)
 }
 
+// for a program that has its output and its errors apart: writes the text that ends before a place to the one. Where
+// that fails, the complaint goes to the other.
+pub fn print_text(
+    output: &impl Print,
+    errors: &impl Print,
+    text: &[u8],
+    end: usize,
+    complaint: &[u8],
+)
+    requires { end ≤ length text.now }
+{
+    if output.write_all(&text[0..end]).is_err() {
+        let _ = errors.write_all(complaint);
+    }
+}
+
 // for a program that is no filter: writes a text to standard output. Where that fails, the program says so on standard
 // error, after its name.
-pub fn print_text(rt: &(impl Print + Eprint), name: &str, text: &[u8]) {
+pub fn print_named(rt: &(impl Print + Eprint), name: &str, text: &[u8]) {
     if rt.write_all(text).is_err() {
         let _ = eprintln!(rt; "{name}: cannot write to standard output");
     }
@@ -62,5 +78,5 @@ pub fn run<W: FnOnce(&[u8], &mut [u8]) -> usize>(
         return;
     };
     let end = work(&sheet[..filled], room);
-    print_text(rt, name, &room[..end]);
+    print_named(rt, name, &room[..end]);
 }
