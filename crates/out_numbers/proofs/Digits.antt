@@ -31,6 +31,12 @@ unfolding ending_digits decimal text
 last-decimal zero = refl
 last-decimal (suc v) = last_digits (suc v) (suc v)
 
+-- for a proof that has no clause of `places`: every number has a digit
+pub some-decimal : (v : ℕ) → 0 < length (decimal (pos v))
+unfolding digits decimal text
+some-decimal zero = omega arith
+some-decimal (suc v) = simp length-append (omega arith)
+
 -- a number from 10^r on has more than r digits
 more-digits : (r d v : ℕ) → v ≤ d → 10 ^ r ≤ v → r < length (digits d v)
 unfolding digits
