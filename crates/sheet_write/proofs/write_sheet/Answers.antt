@@ -1,7 +1,7 @@
--- The figures are tested, then the buffer; and then the sheet is put there. What the tests answer is read by `cc`, for
--- the arrays that are lent or for others of the same figures.
+-- The figures are tested, then the buffer; and then the sheet is put there. The arrays that are tested have to be those
+-- that are lent, or others of the same figures.
 use Rattle.std.specs.Prelude.{Ok, Err}
-use Rattle.std.proofs.Common.{◌≡◌, sym, ap, ◌∙◌, List, ℕ, ◌+◌, ◌*◌, ◌<◌, ◌≤◌, length, arith}
+use Rattle.std.proofs.Common.{◌≡◌, rules, sym, ap, ◌∙◌, List, ℕ, ◌+◌, ◌*◌, ◌<◌, ◌≤◌, length, arith}
 use Rattle.std.proofs.Math.Option.{none, some}
 use Rattle.std.proofs.lemmas.Result.{err_from_is_err_and}
 use Rattle.rules.specs.declared.Cause.TheVariants.{Buffer}
@@ -20,14 +20,18 @@ use Rattle.sheet_write.specs.Ready.{Short, SheetReady}
 use Rattle.sheet_write.proofs.write_sheet.Goals as goal
 
 -- ---- the figures are refused
-refused : (z : Sizes) (A : Arrays) (d : List ℕ) (r : Refusal) → some (numbered r) ≡ arrays_refusal z A
+refused : (z : Sizes) (A : Arrays) (d : List ℕ) (r : Refusal) {tested : Arrays}
+    → some (numbered r) ≡ arrays_refusal z tested → tested ≡ A
     → Writes (sheet_from z A) (write_refusal z A (length d)) d d (Err r)
 unfolding write_refusal
-refused z A d r h = writes-refused _ (given _ (sym h))
+refused z A d r h same = writes-refused _ (given _ (sym (h ∙ ap (arrays_refusal z) same)))
 
 -- ---- the figures are not refused
 record Passed (z : Sizes) (A : Arrays) : Type 0 where
   is : none ≡ arrays_refusal z A
+
+passed_by : {z : Sizes} {A tested : Arrays} → none ≡ arrays_refusal z tested → tested ≡ A → Passed z A
+passed_by {z} h same = record { is = h ∙ ap (arrays_refusal z) same }
 
 module _ {z : Sizes} {A : Arrays} (passed : Passed z A) where
   accepted : arrays_refusal z A ≡ none
@@ -77,40 +81,40 @@ unfolding refusal_of
 returns-in_err-check_arrays c =
     let err = err_from_is_err_and c.from_residual.result c.from_residual.ensures.1 in
     rw (err.1, err.2)
-    (refused c.args.sizes c.args.arrays.now c.args.sheet.now _ c.in_err-check_arrays.ensures)
+    (refused c.args.sizes c.args.arrays.now c.args.sheet.now _ c.in_err-check_arrays.ensures (search rules))
 
 pub count_entries-e-requires : goal.count_entries-e-requires
 unfolding refusal_of
 count_entries-e-requires c =
-    let passed : Passed c.args.sizes c.args.arrays.now = record { is = c.in_ok-check_arrays.ensures } in
+    let passed : Passed c.args.sizes c.args.arrays.now = passed_by c.in_ok-check_arrays.ensures (search rules) in
     short passed
 
 pub overflow_mul-wanted : goal.overflow_mul-wanted
 unfolding refusal_of
 overflow_mul-wanted c =
-    let passed : Passed c.args.sizes c.args.arrays.now = record { is = c.in_ok-check_arrays.ensures } in
+    let passed : Passed c.args.sizes c.args.arrays.now = passed_by c.in_ok-check_arrays.ensures (search rules) in
     record { fits = omega (arith, few passed c.count_entries-e.ensures) }
 
 pub overflow_add-wanted : goal.overflow_add-wanted
 unfolding refusal_of
 overflow_add-wanted c =
-    let passed : Passed c.args.sizes c.args.arrays.now = record { is = c.in_ok-check_arrays.ensures } in
+    let passed : Passed c.args.sizes c.args.arrays.now = passed_by c.in_ok-check_arrays.ensures (search rules) in
     record { fits = omega (arith, few passed c.count_entries-e.ensures) }
 
 pub returns-then-sheet-wanted : goal.returns-then-sheet-wanted
 unfolding refusal_of
 returns-then-sheet-wanted c =
-    let passed : Passed c.args.sizes c.args.arrays.now = record { is = c.in_ok-check_arrays.ensures } in
+    let passed : Passed c.args.sizes c.args.arrays.now = passed_by c.in_ok-check_arrays.ensures (search rules) in
     lacking passed c.count_entries-e.ensures c.args.sheet.now c.at.ensures c.if-sheet-wanted.true
 
 pub put_sheet-requires : goal.put_sheet-requires
 unfolding refusal_of
 put_sheet-requires c =
-    let passed : Passed c.args.sizes c.args.arrays.now = record { is = c.in_ok-check_arrays.ensures } in
+    let passed : Passed c.args.sizes c.args.arrays.now = passed_by c.in_ok-check_arrays.ensures (search rules) in
     sheet-ready passed c.count_entries-e.ensures c.args.sheet.now c.if-sheet-wanted.false
 
 pub returns : goal.returns
 unfolding refusal_of
 returns c =
-    let passed : Passed c.args.sizes c.args.arrays.now = record { is = c.in_ok-check_arrays.ensures } in
+    let passed : Passed c.args.sizes c.args.arrays.now = passed_by c.in_ok-check_arrays.ensures (search rules) in
     wrote passed c.count_entries-e.ensures c.args.sheet.now c.if-sheet-wanted.false c.put_sheet.ensures
