@@ -10,9 +10,10 @@ use Rattle.sheet_array_checks.proofs.present_in.Goals.{After-from-count}
 use Rattle.sheet_array_checks.proofs.present_in.Goals as goal
 
 -- a figure that is not 0 adds 1
-counted-next : (figures : List ℤ) (i : ℕ) → SFits w32 (at figures i)
-    → counted i (at figures) + bool_byte (not (nat_eq (of_z w32 (at figures i)) 0)) ≡ counted (i + 1) (at figures)
-counted-next figures i fits = by (nat_eq (of_z w32 (at figures i)) 0) refl
+counted-next : (figures : List ℤ) (i : ℕ) {count one : ℕ} → count ≡ counted i (at figures)
+    → one ≡ bool_byte (not (nat_eq (of_z w32 (at figures i)) 0)) → SFits w32 (at figures i)
+    → count + one ≡ counted (i + 1) (at figures)
+counted-next figures i before is fits = (λ t. before t + is t) ∙ by (nat_eq (of_z w32 (at figures i)) 0) refl
   where
     more : counted (suc i) (at figures) ≡ counted i (at figures) + length (entry 0 (at figures i))
     more = counted-more 0 i (at figures)
@@ -34,9 +35,8 @@ loop-figure-init c = refl
 turn : (c : After-from-count) → c.loop-figure.count + c.from-count.result
     ≡ counted (c.loop-figure.figure-index + 1) (at c.args.figures.now)
 turn c =
-    let fits : SFits w32 (at c.args.figures.now c.loop-figure.figure-index) = search rules in
-    (λ t. c.loop-figure.invariant t + c.from-count.ensures t)
-    ∙ counted-next c.args.figures.now c.loop-figure.figure-index fits
+    counted-next c.args.figures.now c.loop-figure.figure-index c.loop-figure.invariant c.from-count.ensures
+    (search rules)
 
 pub overflow_add-count : goal.overflow_add-count
 overflow_add-count c =
