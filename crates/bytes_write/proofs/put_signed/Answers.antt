@@ -2,6 +2,8 @@
 use Rattle.std.proofs.Common.{ℕ, zero, suc, ◌+◌, ◌-◌, ◌*◌, ◌/◌, ◌^◌, ◌≤◌, ◌<◌, ◌≡◌, refl, ap, ◌∙◌, arith, ℤ, pos}
 use Rattle.std.proofs.Common.{negsuc, mul-suc, of_z, w64}
 use Rattle.std.proofs.Math.Nat.{pow-succ', mul_assoc, one-le-pow, add-mul-mod_self_left, add-mul-div_left}
+use Rattle.std.specs.Int.Bits.{bit_and}
+use Rattle.std.proofs.lemmas.Grind.{common_steps}
 use lib.Pow.{pow-add}
 use Rattle.std.specs.Int.Signed.{mag}
 use mir.Facts.{to_z-of_z}
@@ -40,6 +42,9 @@ returns c =
     let args = c.args in
     let bits : c.cast_unsigned.result ≡ of_z w64 args.v =
     c.cast_unsigned.ensures ∙ ap (of_z w64) (to_z-of_z c.ranges.v) in
+    -- a mask of all ones leaves them as they are
+    let masked : bit_and c.cast_unsigned.result 18446744073709551615 ≡ of_z w64 args.v = grind (arith, common_steps) in
     let same = bytes args.width args.v c.requires.narrow (omega (arith, c.requires.small)) in
     c.put_unsigned.ensures
-    ∙ ap (λ bs. written_at args.at bs args.d.now) (ap (unsigned_bytes args.width) bits ∙ same)
+    ∙ ap (λ bs. written_at args.at bs args.d.now)
+    (ap (unsigned_bytes args.width) (search (bits, masked)) ∙ same)
