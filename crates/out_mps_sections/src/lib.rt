@@ -25,12 +25,12 @@ pub fn put_rows(text: &mut Text, m: usize)
 }
 
 // The coefficients of material j in COLUMNS.
-fn put_coefficients(text: &mut Text, j: usize, m: usize, coefficient: &[i16; 512])
-    requires { ColumnInside j m }
-    ensures { Grows (lines m (λ i. coefficient_line j i (element coefficient.now (32 * i + j))))
+fn put_coefficients(text: &mut Text, j: usize, limits: usize, coefficient: &[i16; 512])
+    requires { ColumnInside j limits }
+    ensures { Grows (lines limits (λ i. coefficient_line j i (element coefficient.now (32 * i + j))))
         text.old text.new }
 {
-    for i in 0..m {
+    for i in 0..limits {
         put_coefficient(text, j, i, coefficient[32 * i + j] as i64);
     }
 }
@@ -51,8 +51,8 @@ pub fn put_columns(text: &mut Text, f: &Figures, coefficient: &[i16; 512])
     ensures { Grows (lines f.now.materials (λ j. column_lines j f.now.limits (element f.now.cost j)
         (λ i. element coefficient.now (32 * i + j)))) text.old text.new }
 {
-    for j in 0..f.materials {
-        put_column(text, j, f, coefficient);
+    for material in 0..f.materials {
+        put_column(text, material, f, coefficient);
     }
 }
 

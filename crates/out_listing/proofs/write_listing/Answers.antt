@@ -1,5 +1,6 @@
 -- The text is put into room that takes every text, and from there to the lent bytes where they can take it.
-use Rattle.std.proofs.Common.{◌≤◌, ◌++◌, sym, ◌∙◌, length, drop, arith, rules}
+use Rattle.std.proofs.Common.{◌≤◌, refl, sym, ◌∙◌, length, arith, rules}
+use Rattle.std.proofs.Math.Nat.{sub-zero}
 use Rattle.out_listing.specs.WholeText.{begun, listed-is, not_listed}
 use Rattle.out_listing.proofs.write_listing.Goals as goal
 use Rattle.out_listing.proofs.write_listing.Goals.{After-put_answer-end}
@@ -33,4 +34,4 @@ pub returns-clause-listed : goal.returns-clause-listed
 returns-clause-listed c =
     let (is, ends) = begun c.put_answer-end.ensures (search rules) in
     let copied = c.copy_from_slice.ensures.after in
-    listed-is (λ k. (copied ∙ is) k ++ drop (ends k) c.args.out.now) ends (rw (sym ends) (omega arith))
+    simp (copied ∙ is, sub-zero, ends) (listed-is refl refl (rw (sym ends) (omega arith)))

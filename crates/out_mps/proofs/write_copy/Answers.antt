@@ -1,6 +1,7 @@
 -- The text is put into room that takes every text, and from there to the lent buffer where that can take it.
-use Rattle.std.specs.Prelude.{◌≡◌, ◌≤◌, ◌++◌, length, drop}
-use Rattle.std.proofs.Common.{ap, arith, rules}
+use Rattle.std.specs.Prelude.{◌≡◌, ◌≤◌, length}
+use Rattle.std.proofs.Common.{arith, rules}
+use Rattle.std.proofs.Math.Nat.{sub-zero}
 use Rattle.rules_mps.specs.Mps.{mps_text, longest_mps}
 use Rattle.sheet_figures.specs.Figures.{problem_of}
 use Rattle.out_mps_text.specs.Longest.{text-short}
@@ -22,7 +23,9 @@ inside c =
     search rules
 
 pub slice_bounds-space-end : goal.slice_bounds-space-end
-slice_bounds-space-end c = inside (goal.at.slice_bounds-space-end c).After-put_text-end
+slice_bounds-space-end c =
+    let within = inside (goal.at.slice_bounds-space-end c).After-put_text-end in
+    search rules
 
 pub slice_bounds-whole-end : goal.slice_bounds-whole-end
 slice_bounds-whole-end c =
@@ -37,6 +40,5 @@ copy_from_slice-requires c =
 pub returns : goal.returns
 unfolding longest_mps
 returns c =
-    let rest = drop c.put_text-end.result c.args.text.now in
     full-copy c.put_text-end.ensures (text-short c.requires) (omega arith)
-    (ap (λ front. front ++ rest) c.copy_from_slice.ensures.after)
+    (simp (c.copy_from_slice.ensures.after, sub-zero))

@@ -8,4 +8,4 @@ use Rattle.out_mps_sections.proofs.put_coefficients.Given as goal
 abbrev pub invariant-loop-i : goal.invariant-loop-i
 invariant-loop-i l =
     LinesGrow (λ i. coefficient_line l.j i (element l.coefficient (32 * i + l.j)))
-    l.m l.fn.text l.text l.i
+    l.limits l.fn.text l.text l.i
