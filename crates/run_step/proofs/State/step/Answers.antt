@@ -1,14 +1,17 @@
 -- The look gives what step t works out, and what comes back is what the step hands back.
 use Rattle.std.proofs.Common.{◌≡◌, ℕ, suc, List, ℤ, ◌+ℤ◌, Bool, false, length, sym, ap, ◌∙◌, rules, SFits, to_z, of_z}
-use Rattle.std.proofs.Common.{to_z-of_z, refl, Ok, Err}
+use Rattle.std.proofs.Common.{to_z-of_z, refl, Ok, Err, ◌≤◌, ◌<◌, pos, true, ltb, ltb-true, ltb-false}
+use Rattle.std.proofs.Common.{le_trans, le_of_eq, arith}
+use Rattle.std.proofs.Math.ListN.{get_or-eq_default}
 use Rattle.std.proofs.lemmas.List.{map-id}
 use mathlib.Core.Path.{transport}
-use Rattle.std.specs.Int.{w32, w64, int_max}
+use Rattle.std.specs.Int.{Width, w32, w64, int_max}
 use Rattle.rules.specs.Notation.{maxℤ, tabulate, at}
 use Rattle.rules.specs.Problem.{Problem}
 use Rattle.rules.specs.Step.{moved, next, diverged}
 use Rattle.rules.specs.Run.{state_after, look_after}
 use Rattle.rules.specs.Refusals.{number_of, numbered}
+use Rattle.proof_laws.specs.Lengths.{sums-length, totals-length, amounts-length, residuals-length}
 use Rattle.proof_magnitudes.specs.Accepted.{Accepted}
 use Rattle.proof_magnitudes.specs.Steps.{amounts, residuals, low-handed-on}
 use Rattle.sheet_figures.specs.declared.Figures.{Figures}
@@ -29,6 +32,21 @@ use Rattle.run_step.specs.Fitting.{move-fits, sums-fit, totals-fit}
 use Rattle.run_step.specs.Looks.{large, multipliers-enter, amounts-read, residuals-read, low-of-run}
 use Rattle.run_step.specs.Stops.{refused-9, refused-10, not-refused, hands-stop, hands-state}
 use Rattle.run_step.proofs.State.step.Goals as goal
+
+-- ---- where one more fits each of n totals, it fits at every place: past them both lists read 0
+module _ {w : Width} {n : ℕ} (old more : List ℤ) (old-long : length old ≡ n) (more-long : length more ≡ n)
+    (one : (j : ℕ) → j < n → SFits w (at old j +ℤ at more j)) (none : SFits w (pos 0 +ℤ pos 0)) where
+  every-place : (j : ℕ) → SFits w (at old j +ℤ at more j)
+  every-place j = by (ltb j n) refl
+    where
+      by : (b : Bool) → ltb j n ≡ b → SFits w (at old j +ℤ at more j)
+      by true h = one j (ltb-true j n h)
+      by false h =
+          let past : n ≤ j = ltb-false j n h in
+          rw (
+            get_or-eq_default old (pos 0) (le_trans (le_of_eq old-long) past),
+            get_or-eq_default more (pos 0) (le_trans (le_of_eq more-long) past))
+          none
 
 -- ---- what enters the step
 module _ {f : Figures} {a : List ℤ} {greatest : ℤ} {t : ℕ} {w : State} (ready : LookReady f a greatest t w) where
@@ -74,17 +92,30 @@ module _ {f : Figures} {a : List ℤ} {greatest : ℤ} {t : ℕ} {w : State} (re
         (λ k. MoveFits (limits_of f) (sym (multipliers-enter ready) k) (sym g-reads k))
         (move-fits f a accepted t (large ready))
 
-    sums-ask : TotalsFit w32 (length w.sums) (length x) f.materials (at w.sums) (at x)
-    sums-ask =
+    -- whatever is counted, as far as there are places
+    sums-ask : {n : ℕ} → n ≤ 32 → TotalsFit w32 (length w.sums) (length x) n (at w.sums) (at x)
+    sums-ask {n} few =
+        let fit = (sums-fit f a accepted t (large ready)).one in
+        let none : SFits w32 (pos 0 +ℤ pos 0) = search rules in
         transport
-        (λ k. TotalsFit w32 (sym sums-long k) (sym x-long k) f.materials (sym sums-are k) (sym x-reads k))
-        (sums-fit f a accepted t (large ready))
+        (λ k. TotalsFit w32 (sym sums-long k) (sym x-long k) n (sym sums-are k) (sym x-reads k))
+        (record {
+          few = few;
+          enough = few;
+          one = λ j l. every-place _ _ (sums-length P t) (amounts-length P t) fit none j;
+        })
 
-    totals-ask : TotalsFit w64 (length w.totals) (length g) f.limits (at w.totals) (at g)
-    totals-ask =
+    totals-ask : {m : ℕ} → m ≤ 16 → TotalsFit w64 (length w.totals) (length g) m (at w.totals) (at g)
+    totals-ask {m} few =
+        let fit = (totals-fit f a accepted t (large ready)).one in
+        let none : SFits w64 (pos 0 +ℤ pos 0) = search rules in
         transport
-        (λ k. TotalsFit w64 (sym totals-long k) (sym g-long k) f.limits (sym totals-are k) (sym g-reads k))
-        (totals-fit f a accepted t (large ready))
+        (λ k. TotalsFit w64 (sym totals-long k) (sym g-long k) m (sym totals-are k) (sym g-reads k))
+        (record {
+          few = few;
+          enough = few;
+          one = λ i l. every-place _ _ (totals-length P t) (residuals-length P t) fit none i;
+        })
 
     -- ---- the move: the multipliers after the step, as the code moves them
     moves-are : tabulate P.limits (moved P (at w.multipliers) (at g)) ≡ (state_after P (suc t)).multipliers
@@ -169,10 +200,14 @@ returns-then-move_multipliers c =
     c.requires.reached.state
 
 pub add-requires : goal.add-requires
-add-requires c = simp map-id (sums-ask c.requires (look-in c.in-Ok.ensures))
+add-requires c =
+    let few : c.args.f.now.materials ≤ 32 = c.requires.reached.accepted.materials-few in
+    simp map-id (sums-ask c.requires (look-in c.in-Ok.ensures) (omega (arith, few)))
 
 pub add-requires-2 : goal.add-requires-2
-add-requires-2 c = simp map-id (totals-ask c.requires (look-in c.in-Ok.ensures))
+add-requires-2 c =
+    let few : c.args.f.now.limits ≤ 16 = c.requires.reached.accepted.limits-few in
+    simp map-id (totals-ask c.requires (look-in c.in-Ok.ensures) (omega (arith, few)))
 
 pub returns : goal.returns
 unfolding state_in
