@@ -13,7 +13,7 @@
 #![tactic(auto)]
 
 use gate_frames::{Frame, Hex, INPUT, Refused, fill, read_frames, write_line};
-use rules::PlanFigures;
+use rules::{PlanFigures, Refusal};
 use std::io::{Cursor, Print, Write};
 
 // The longest buffer. The longest record has 342 bytes (T6.2).
@@ -22,17 +22,21 @@ const LENT: usize = 400;
 // The room for a line. A line takes less than 900 bytes.
 const ROOM: usize = 1024;
 
-// Plans a sheet, and prints its line, by one write.
-fn print_plan(output: &impl Print, sheet: &[u8], buffer: &mut [u8]) {
-    fill(buffer);
-    let answer = planner::plan(sheet, buffer);
-    let mut room = [0u8; ROOM];
-    let mut line = Cursor::new(&mut room[..]);
+// Writes the line of a sheet.
+fn show_plan(line: &mut impl Write, answer: Result<PlanFigures, Refusal>, buffer: &[u8]) {
     let left = Hex(buffer);
     let _ = match answer {
         Ok(PlanFigures { low, gap }) => writeln!(line, "plan {low} {gap} {left}"),
         Err(refusal) => writeln!(line, "{} {left}", Refused(refusal)),
     };
+}
+
+// Plans a sheet, and prints its line, by one write: `println!` takes a line byte by byte.
+fn print_plan(output: &impl Print, sheet: &[u8], buffer: &mut [u8]) {
+    fill(buffer);
+    let mut room = [0u8; ROOM];
+    let mut line = Cursor::new(&mut room[..]);
+    show_plan(&mut line, planner::plan(sheet, buffer), buffer);
     let end = line.position() as usize;
     write_line(output, &room, end);
 }

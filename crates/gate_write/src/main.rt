@@ -37,15 +37,20 @@ const LENT: usize = 4096;
 // The room for a line. A line takes less than 8,300 bytes.
 const ROOM: usize = 8448;
 
-// Prints the line of a case, by one write.
-fn print_output(output: &impl Print, answer: Result<usize, Refusal>, buffer: &[u8]) {
-    let mut room = [0u8; ROOM];
-    let mut line = Cursor::new(&mut room[..]);
+// Writes the line of a case.
+fn show_output(line: &mut impl Write, answer: Result<usize, Refusal>, buffer: &[u8]) {
     let left = Hex(buffer);
     let _ = match answer {
         Ok(length) => writeln!(line, "wrote {length} {left}"),
         Err(refusal) => writeln!(line, "{} {left}", Refused(refusal)),
     };
+}
+
+// Prints the line of a case, by one write: `println!` gives out one of more than 1,024 bytes in parts.
+fn print_output(output: &impl Print, answer: Result<usize, Refusal>, buffer: &[u8]) {
+    let mut room = [0u8; ROOM];
+    let mut line = Cursor::new(&mut room[..]);
+    show_output(&mut line, answer, buffer);
     let end = line.position() as usize;
     write_line(output, &room, end);
 }

@@ -13,7 +13,7 @@ pub loop-part-preserved : goal.loop-part-preserved
 loop-part-preserved g c =
     let steps = c.in-Some.ensures.steps in
     let part = c.in-Some.part.now in
-    let shown : c.in-Ok.text.now ≡ hex_of part = c.in-Ok.ensures.cases.0 ∙ c.put_digits-end.ensures.shown in (
+    let shown : c.in-Ok.text.now ≡ hex_of part = search rules in (
       search rules,
       tt,
       steps.0 ∙ c.loop-part.invariant.2,
