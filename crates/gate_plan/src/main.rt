@@ -12,22 +12,33 @@
 // `tests/gate_plan` makes the frames, and works out with `tests/solver` what is to be printed.
 #![tactic(auto)]
 
-use gate_frames::{Frame, Hex, INPUT, Refused, fill, read_frames};
-use rules::PlanFigures;
-use std::io::Print;
+use gate_frames::{Frame, Hex, INPUT, Refused, fill, read_frames, write_line};
+use rules::{PlanFigures, Refusal};
+use std::io::{Cursor, Print, Write};
 
 // The longest buffer. The longest record has 342 bytes (T6.2).
 const LENT: usize = 400;
 
-// Plans a sheet, and prints its line.
-fn print_plan(output: &impl Print, sheet: &[u8], buffer: &mut [u8]) {
-    fill(buffer);
-    let answer = planner::plan(sheet, buffer);
+// The room for a line. A line takes less than 900 bytes.
+const ROOM: usize = 1024;
+
+// Writes the line of a sheet.
+fn show_plan(line: &mut impl Write, answer: Result<PlanFigures, Refusal>, buffer: &[u8]) {
     let left = Hex(buffer);
     let _ = match answer {
-        Ok(PlanFigures { low, gap }) => println!(output; "plan {low} {gap} {left}"),
-        Err(refusal) => println!(output; "{} {left}", Refused(refusal)),
+        Ok(PlanFigures { low, gap }) => writeln!(line, "plan {low} {gap} {left}"),
+        Err(refusal) => writeln!(line, "{} {left}", Refused(refusal)),
     };
+}
+
+// Plans a sheet, and prints its line, by one write: `println!` takes a line byte by byte.
+fn print_plan(output: &impl Print, sheet: &[u8], buffer: &mut [u8]) {
+    fill(buffer);
+    let mut room = [0u8; ROOM];
+    let mut line = Cursor::new(&mut room[..]);
+    show_plan(&mut line, planner::plan(sheet, buffer), buffer);
+    let end = line.position() as usize;
+    write_line(output, &room, end);
 }
 
 // Lends a buffer to the plan of a sheet. There is none where the frame asks for a longer one.

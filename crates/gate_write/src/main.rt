@@ -19,11 +19,11 @@
 ghost use Rattle.std.specs.Prelude.{◌+◌, ◌≤◌};
 
 use bytes_read::size_at;
-use gate_frames::{Frames, Hex, INPUT, Refused, fill, read_frames};
+use gate_frames::{Frames, Hex, INPUT, Refused, fill, read_frames, write_line};
 use rules::{Refusal, Shape, Sizes};
 use rules_arrays::Arrays;
 use sheet_write::write_sheet;
-use std::io::Print;
+use std::io::{Cursor, Print, Write};
 
 // How many bytes of a case stand before its figures.
 const HEAD: usize = 34;
@@ -34,13 +34,25 @@ const FIGURES: usize = 1024;
 // The longest buffer. The longest sheet has 3,852 bytes (T2.6).
 const LENT: usize = 4096;
 
-// Prints the line of a case.
-fn print_output(output: &impl Print, answer: Result<usize, Refusal>, buffer: &[u8]) {
+// The room for a line. A line takes less than 8,300 bytes.
+const ROOM: usize = 8448;
+
+// Writes the line of a case.
+fn show_output(line: &mut impl Write, answer: Result<usize, Refusal>, buffer: &[u8]) {
     let left = Hex(buffer);
     let _ = match answer {
-        Ok(length) => println!(output; "wrote {length} {left}"),
-        Err(refusal) => println!(output; "{} {left}", Refused(refusal)),
+        Ok(length) => writeln!(line, "wrote {length} {left}"),
+        Err(refusal) => writeln!(line, "{} {left}", Refused(refusal)),
     };
+}
+
+// Prints the line of a case, by one write: `println!` gives out one of more than 1,024 bytes in parts.
+fn print_output(output: &impl Print, answer: Result<usize, Refusal>, buffer: &[u8]) {
+    let mut room = [0u8; ROOM];
+    let mut line = Cursor::new(&mut room[..]);
+    show_output(&mut line, answer, buffer);
+    let end = line.position() as usize;
+    write_line(output, &room, end);
 }
 
 // The unsigned number of 4 bytes at a place. `u32::from_le_bytes` wants them as an array, and to cut it is no plainer.
