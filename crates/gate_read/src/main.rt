@@ -10,11 +10,14 @@
 // `tests/gate_read` makes the sheets, and works out with `tests/solver` what is to be printed.
 #![tactic(auto)]
 
-use gate_frames::{Frames, INPUT, Refused, read_frames};
+use gate_frames::{Frames, INPUT, Refused, read_frames, write_line};
 use sheet_figures::Figures;
 use sheet_read::read_sheet;
 use std::fmt;
-use std::io::Print;
+use std::io::{Cursor, Print, Write};
+
+// The room for a line. A line with every figure takes less than 9,000 bytes.
+const ROOM: usize = 16384;
 
 // The figures of an array that are not 0, each after a space, under the letter of the array.
 #[derive(Drop)]
@@ -70,12 +73,17 @@ impl fmt::Display for Accepted<'_> {
     }
 }
 
+// Prints the line of a sheet, by one write.
 fn print_sheet(output: &impl Print, sheet: &[u8]) {
     let mut coefficient: [i16; 512] = [0; 512];
+    let mut room = [0u8; ROOM];
+    let mut line = Cursor::new(&mut room[..]);
     let _ = match read_sheet(sheet, &mut coefficient) {
-        Ok(figures) => println!(output; "{}", Accepted(&figures, &coefficient)),
-        Err(refusal) => println!(output; "{}", Refused(refusal)),
+        Ok(figures) => writeln!(line, "{}", Accepted(&figures, &coefficient)),
+        Err(refusal) => writeln!(line, "{}", Refused(refusal)),
     };
+    let end = line.position() as usize;
+    write_line(output, &room, end);
 }
 
 fn main(rt: HostRuntime) {
