@@ -14,10 +14,31 @@ use gate_frames::{Frames, INPUT, Refused, read_frames, write_line};
 use sheet_figures::Figures;
 use sheet_read::read_sheet;
 use std::fmt;
-use std::io::{Cursor, Print, Write};
+use std::fmt::Write;
+use std::io::Print;
 
 // The room for a line. A line with every figure takes less than 9,000 bytes.
 const ROOM: usize = 16384;
+
+// A line, as far as it is put together. `println!` would give out one of more than 1,024 bytes in parts, and a `Cursor`
+// takes twice as long for the many small parts that a figure has.
+#[derive(Drop)]
+struct Line {
+    bytes: [u8; ROOM],
+    end: usize,
+}
+
+impl fmt::Write for Line {
+    fn write_str(&mut self, text: &str) -> fmt::Result {
+        for byte in text.as_bytes() {
+            if self.end < ROOM {
+                self.bytes[self.end] = *byte;
+                self.end += 1;
+            }
+        }
+        Ok(())
+    }
+}
 
 // The figures of an array that are not 0, each after a space, under the letter of the array.
 #[derive(Drop)]
@@ -76,14 +97,15 @@ impl fmt::Display for Accepted<'_> {
 // Prints the line of a sheet, by one write.
 fn print_sheet(output: &impl Print, sheet: &[u8]) {
     let mut coefficient: [i16; 512] = [0; 512];
-    let mut room = [0u8; ROOM];
-    let mut line = Cursor::new(&mut room[..]);
-    let _ = match read_sheet(sheet, &mut coefficient) {
-        Ok(figures) => writeln!(line, "{}", Accepted(&figures, &coefficient)),
-        Err(refusal) => writeln!(line, "{}", Refused(refusal)),
+    let mut line = Line {
+        bytes: [0; ROOM],
+        end: 0,
     };
-    let end = line.position() as usize;
-    write_line(output, &room, end);
+    let _ = match read_sheet(sheet, &mut coefficient) {
+        Ok(figures) => line.writeln(Accepted(&figures, &coefficient)),
+        Err(refusal) => line.writeln(Refused(refusal)),
+    };
+    write_line(output, &line.bytes, line.end);
 }
 
 fn main(rt: HostRuntime) {
