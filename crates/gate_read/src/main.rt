@@ -10,11 +10,35 @@
 // `tests/gate_read` makes the sheets, and works out with `tests/solver` what is to be printed.
 #![tactic(auto)]
 
-use gate_frames::{Frames, INPUT, Refused, read_frames};
+use gate_frames::{Frames, INPUT, Refused, read_frames, write_line};
 use sheet_figures::Figures;
 use sheet_read::read_sheet;
 use std::fmt;
+use std::fmt::Write;
 use std::io::Print;
+
+// The room for a line. A line with every figure takes less than 9,000 bytes.
+const ROOM: usize = 16384;
+
+// A line, as far as it is put together. `println!` would give out one of more than 1,024 bytes in parts, and a `Cursor`
+// takes twice as long for the many small parts that a figure has.
+#[derive(Drop)]
+struct Line {
+    bytes: [u8; ROOM],
+    end: usize,
+}
+
+impl fmt::Write for Line {
+    fn write_str(&mut self, text: &str) -> fmt::Result {
+        for byte in text.as_bytes() {
+            if self.end < ROOM {
+                self.bytes[self.end] = *byte;
+                self.end += 1;
+            }
+        }
+        Ok(())
+    }
+}
 
 // The figures of an array that are not 0, each after a space, under the letter of the array.
 #[derive(Drop)]
@@ -70,12 +94,18 @@ impl fmt::Display for Accepted<'_> {
     }
 }
 
+// Prints the line of a sheet, by one write.
 fn print_sheet(output: &impl Print, sheet: &[u8]) {
     let mut coefficient: [i16; 512] = [0; 512];
-    let _ = match read_sheet(sheet, &mut coefficient) {
-        Ok(figures) => println!(output; "{}", Accepted(&figures, &coefficient)),
-        Err(refusal) => println!(output; "{}", Refused(refusal)),
+    let mut line = Line {
+        bytes: [0; ROOM],
+        end: 0,
     };
+    let _ = match read_sheet(sheet, &mut coefficient) {
+        Ok(figures) => line.writeln(Accepted(&figures, &coefficient)),
+        Err(refusal) => line.writeln(Refused(refusal)),
+    };
+    write_line(output, &line.bytes, line.end);
 }
 
 fn main(rt: HostRuntime) {
