@@ -21,7 +21,7 @@ use std::io::Print;
 const ROOM: usize = 16384;
 
 // A line, as far as it is put together. `println!` would give out one of more than 1,024 bytes in parts, and a `Cursor`
-// takes twice as long for the many small parts that a figure has.
+// takes longer for the small parts of a figure (docs/DESIGN-PASS.md, "Speed").
 #[derive(Drop)]
 struct Line {
     bytes: [u8; ROOM],

@@ -45,7 +45,8 @@ module _ {w : Width} {n : ℕ} (old more : List ℤ) (old-long : length old ≡ 
           let past : n ≤ j = ltb-false j n h in
           rw (
             get_or-eq_default old (pos 0) (le_trans (le_of_eq old-long) past),
-            get_or-eq_default more (pos 0) (le_trans (le_of_eq more-long) past))
+            get_or-eq_default more (pos 0) (le_trans (le_of_eq more-long) past),
+          )
           none
 
 -- ---- what enters the step
