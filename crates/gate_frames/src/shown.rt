@@ -50,7 +50,7 @@ pub struct Hex<'a>(pub &'a [u8]);
 impl fmt::Display for Hex<'_> {
     ghost output = { λ hex. Some (hex_of hex.0.now) };
 
-    // By parts: a write of each byte, as by `{byte:02x}`, takes four times as long.
+    // By parts: a write of each byte, as by `{byte:02x}`, takes several times as long (docs/DESIGN-PASS.md, "Speed").
     fn fmt<W: fmt::Write>(&self, f: &mut fmt::Formatter<W>) -> fmt::Result {
         let mut digits = [0u8; 2 * PART];
         for part in self.0.chunks(PART) {

@@ -21,7 +21,7 @@ use std::io::Print;
 const ROOM: usize = 16384;
 
 // A line, as far as it is put together. `println!` would give out one of more than 1,024 bytes in parts, and a `Cursor`
-// takes longer for the small parts of a figure (docs/DESIGN-PASS.md, "Speed").
+// takes longer for the small parts of a figure (docs/DESIGN-PASS.md, "Speed"). What has no room is left out.
 #[derive(Drop)]
 struct Line {
     bytes: [u8; ROOM],
@@ -30,9 +30,9 @@ struct Line {
 
 impl fmt::Write for Line {
     fn write_str(&mut self, text: &str) -> fmt::Result {
-        for byte in text.as_bytes() {
+        for &byte in text.as_bytes() {
             if self.end < ROOM {
-                self.bytes[self.end] = *byte;
+                self.bytes[self.end] = byte;
                 self.end += 1;
             }
         }
